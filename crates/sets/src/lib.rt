@@ -1,0 +1,85 @@
+// A set of instruments as a 64-bit word: bit k stands for instrument k.
+ghost use mathlib.Core.Path.{_≡_};
+ghost use Prim.Native.Nat.{ℕ, _<_, _≤_};
+ghost use Rattle.matroid.specs.Set.{_∪_, _∩_, _∖_, only, with, without, under, size};
+ghost use Rattle.sets.specs.Bits.{bit};
+ghost use Rattle.sets.specs.Lowest.{Lowest};
+
+// Whether k is in s.
+pub fn member(s: u64, k: usize) -> bool
+    requires { ⌜ k < 64 ⌝ }
+    ensures { λ r. ⌜ r ≡ bit s k ⌝ }
+{
+    (s >> k) % 2 == 1
+}
+
+// The set of k alone.
+pub fn only(k: usize) -> u64
+    requires { ⌜ k < 64 ⌝ }
+    ensures { λ r. ⌜ ((j : ℕ) → bit r j ≡ only k j) ⌝ }
+{
+    1u64 << k
+}
+
+// What is in a or in b.
+pub fn either(a: u64, b: u64) -> u64
+    ensures { λ r. ⌜ ((j : ℕ) → bit r j ≡ (bit a ∪ bit b) j) ⌝ }
+{
+    a | b
+}
+
+// What is in a and in b.
+pub fn both(a: u64, b: u64) -> u64
+    ensures { λ r. ⌜ ((j : ℕ) → bit r j ≡ (bit a ∩ bit b) j) ⌝ }
+{
+    a & b
+}
+
+// What is in a and not in b.
+pub fn minus(a: u64, b: u64) -> u64
+    ensures { λ r. ⌜ ((j : ℕ) → bit r j ≡ (bit a ∖ bit b) j) ⌝ }
+{
+    a ^ (a & b)
+}
+
+// s with k.
+pub fn with(s: u64, k: usize) -> u64
+    requires { ⌜ k < 64 ⌝ }
+    ensures { λ r. ⌜ ((j : ℕ) → bit r j ≡ with (bit s) k j) ⌝ }
+{
+    either(s, only(k))
+}
+
+// s without k.
+pub fn without(s: u64, k: usize) -> u64
+    requires { ⌜ k < 64 ⌝ }
+    ensures { λ r. ⌜ ((j : ℕ) → bit r j ≡ without (bit s) k j) ⌝ }
+{
+    minus(s, only(k))
+}
+
+// The instruments below m.
+pub fn all_below(m: usize) -> u64
+    requires { ⌜ m ≤ 64 ⌝ }
+    ensures { λ r. ⌜ ((j : ℕ) → bit r j ≡ under m j) ⌝ }
+{
+    if m < 64 {
+        (1u64 << m) - 1
+    } else {
+        0xffff_ffff_ffff_ffff
+    }
+}
+
+// The least member of s, or 64 where s is empty.
+pub fn lowest(s: u64) -> usize
+    ensures { λ r. ⌜ Lowest s r ⌝ }
+{
+    u64::trailing_zeros(s) as usize
+}
+
+// How many are in s: the ones of the word.
+pub fn size(s: u64) -> usize
+    ensures { λ r. ⌜ r ≡ size 64 (bit s) ⌝ }
+{
+    u64::count_ones(s) as usize
+}
