@@ -1,0 +1,203 @@
+-- The loop of `read`: what is still to be read decides the answer.
+use Prim.Native.Nat.{ℕ, zero, suc, _+_, _-_, _≤_, _<_}
+use mathlib.Core.Path.{_≡_, refl, sym, ap, _∙_}
+use mathlib.Core.Bool.{Bool, true, false, cond}
+use mathlib.Core.Logic.{_≢_}
+use mathlib.Core.List.{List}
+use native.Mathlib.Omega.{arith}
+use native.Mathlib.Decide.{decLt, decLe, ℕ-discrete}
+use lib.Dec.{eqb, leb, ltb}
+use lib.ListN.{length, getD, set, replicate}
+use borrow.Author.Tests.{eq-eqb, ne-eqb, le-leb, lt-leb, leb-true, leb-false, eqb-true, eqb-false, lt-ltb, le-ltb}
+use Rattle.plan.specs.declared.Command.{Command}
+use Rattle.plan.specs.declared.Command.the-variants.{Missing, Unknown, Short, Start, Caps, Loops, Class, Put, Span, End}
+use Rattle.plan.specs.declared.Reading.{Reading}
+use Rattle.plan.specs.declared.State.{State}
+use Rattle.plan.specs.declared.Team.{Team}
+use Rattle.plan.specs.Command.{widthOf, commandOf, commandAt, lengthOf}
+use Rattle.plan.specs.Fault.{fault, isEnd}
+use Rattle.plan.specs.Carry.{blankTeam, start, openTeam, changedTeam, changedState}
+use Rattle.plan.specs.Read.{refused, finished, changedTeams, readFrom, readPlan}
+
+-- a command has as many bytes as its first byte says
+length-command : (byte a b c : ℕ) → widthOf byte ≢ 0 → lengthOf (commandOf byte a b c) ≡ widthOf byte
+length-command zero a b c d = absurd (d refl)
+length-command (suc zero) a b c d = refl
+length-command (suc (suc zero)) a b c d = refl
+length-command (suc (suc (suc zero))) a b c d = refl
+length-command (suc (suc (suc (suc zero)))) a b c d = refl
+length-command (suc (suc (suc (suc (suc zero))))) a b c d = refl
+length-command (suc (suc (suc (suc (suc (suc zero)))))) a b c d = refl
+length-command (suc (suc (suc (suc (suc (suc (suc zero))))))) a b c d = refl
+length-command (suc (suc (suc (suc (suc (suc (suc (suc k)))))))) a b c d = absurd (d refl)
+
+-- a command that stands whole at an offset
+pub record Whole (file : List ℕ) (at : ℕ) (command : Command) : Type 0 where
+  pub some : 0 < lengthOf command
+  pub fits : at + lengthOf command ≤ length file
+
+-- a command that breaks no rule stands whole
+pub whole : (file : List ℕ) (at : ℕ) (s : State) (team : Team) → fault at s team (commandAt file at) ≡ 0 → Whole file at (commandAt file at)
+unfolding commandAt fault
+whole file at s team = ends (leb (length file) at)
+  where
+    byte : ℕ
+    byte = getD file at 0
+
+    command : Command
+    command = commandOf byte (getD file (at + 1) 0) (getD file (at + 2) 0) (getD file (at + 3) 0)
+
+    short : (b : Bool) → leb (at + widthOf byte) (length file) ≡ b → widthOf byte ≢ 0 → fault at s team (cond b command Short) ≡ 0 → Whole file at (cond b command Short)
+    short true t w e =
+        let same = length-command byte (getD file (at + 1) 0) (getD file (at + 2) 0) (getD file (at + 3) 0) w in
+        let room = leb-true (at + widthOf byte) (length file) t in
+        record { some = omega arith; fits = omega arith }
+    short false t w e = absurd (omega arith)
+
+    unknown : (b : Bool) → eqb (widthOf byte) 0 ≡ b → fault at s team (cond b Unknown (cond (leb (at + widthOf byte) (length file)) command Short)) ≡ 0
+        → Whole file at (cond b Unknown (cond (leb (at + widthOf byte) (length file)) command Short))
+    unknown true t e = absurd (omega arith)
+    unknown false t e = short (leb (at + widthOf byte) (length file)) refl (eqb-false (widthOf byte) 0 t) e
+
+    ends : (b : Bool) → fault at s team (cond b Missing (cond (eqb (widthOf byte) 0) Unknown (cond (leb (at + widthOf byte) (length file)) command Short))) ≡ 0
+        → Whole file at (cond b Missing (cond (eqb (widthOf byte) 0) Unknown (cond (leb (at + widthOf byte) (length file)) command Short)))
+    ends true e = absurd (omega arith)
+    ends false e = unknown (eqb (widthOf byte) 0) refl e
+
+-- a thirteenth team is refused
+room : (n : ℕ) (b : Bool) → leb 12 n ≡ b → _≡_ {A = ℕ} (cond b 7 0) 0 → n + 1 ≤ 12
+room n true t e = absurd (omega arith)
+room n false t e = let h = leb-false 12 n t in omega arith
+
+few-teams : (at : ℕ) (s : State) (team : Team) (command : Command) → s .n ≤ 12 → fault at s team command ≡ 0 → changedState s command .n ≤ 12
+unfolding fault changedState
+few-teams at s team Missing l e = l
+few-teams at s team Unknown l e = l
+few-teams at s team Short l e = l
+few-teams at s team (Start version m) l e = l
+few-teams at s team (Caps channels) l e = room (s .n) (leb 12 (s .n)) refl e
+few-teams at s team (Loops channels) l e = room (s .n) (leb 12 (s .n)) refl e
+few-teams at s team (Class class most) l e = l
+few-teams at s team (Put instrument class) l e = l
+few-teams at s team (Span instrument a b) l e = l
+few-teams at s team End l e = l
+
+-- The answer is what reading from here on comes to, and there is fuel for it.
+pub record Run (file : List ℕ) (at : ℕ) (s : State) (teams : List Team) : Type 0 where
+  pub inside : at ≤ length file
+  pub few : s .n ≤ 12
+  pub fuel : ℕ
+  pub enough : length file < at + fuel
+  pub same : readPlan file ≡ readFrom fuel file at s teams
+
+-- at the start
+pub run-start : (file : List ℕ) → getD file 0 0 ≡ 1 → Run file 0 start (replicate 12 blankTeam)
+unfolding readPlan
+run-start file e = record { inside = omega arith; few = omega arith; fuel = suc (length file); enough = omega arith; same = rw (eq-eqb (getD file 0 0) 1 e, readPlan) refl }
+
+-- a file that starts otherwise is refused
+pub run-none : (file : List ℕ) → getD file 0 0 ≢ 1 → readPlan file ≡ refused 1 0
+unfolding readPlan
+run-none file d = rw (ne-eqb (getD file 0 0) 1 d, readPlan) refl
+
+-- ---- one command
+
+-- the command at an offset, and the rule that it breaks
+abbrev pub number : List ℕ → ℕ → State → List Team → ℕ
+number file at s teams = fault at s (openTeam teams (s .n)) (commandAt file at)
+
+-- where a command that breaks no rule leads
+abbrev pub next : (List ℕ → ℕ → State → List Team → Type 0) → List ℕ → ℕ → State → List Team → Type 0
+next P file at s teams =
+    let command = commandAt file at in
+    let s′ = changedState s command in
+    P file (at + lengthOf command) s′ (changedTeams teams (s′ .n) (changedTeam (openTeam teams (s .n)) command))
+
+module _ (fuel : ℕ) (file : List ℕ) (at : ℕ) (s : State) (teams : List Team) where
+  -- the three ways of a command
+  step-refused : number file at s teams ≢ 0 → readFrom (suc fuel) file at s teams ≡ refused (number file at s teams) at
+  unfolding readFrom
+  step-refused d = rw (ne-eqb (number file at s teams) 0 d, readFrom) refl
+
+  step-end : number file at s teams ≡ 0 → isEnd (commandAt file at) ≡ true → readFrom (suc fuel) file at s teams ≡ finished file at s teams
+  unfolding readFrom
+  step-end z e = rw (eq-eqb (number file at s teams) 0 z, e, readFrom) refl
+
+  step-next : number file at s teams ≡ 0 → isEnd (commandAt file at) ≡ false → next (λ file′ at′ s′ teams′. readFrom (suc fuel) file at s teams ≡ readFrom fuel file′ at′ s′ teams′) file at s teams
+  unfolding readFrom
+  step-next z e = rw (eq-eqb (number file at s teams) 0 z, e, readFrom) refl
+
+module _ (file : List ℕ) (at : ℕ) (s : State) (teams : List Team) (run : Run file at s teams) where
+  -- while the end is not passed there is fuel for one command more
+  more : (k : ℕ) × (run .fuel ≡ suc k)
+  more = go (run .fuel) (run .enough) (run .inside)
+    where
+      go : (f : ℕ) → length file < at + f → at ≤ length file → (k : ℕ) × (f ≡ suc k)
+      go zero l i = absurd (omega arith)
+      go (suc k) l i = (k, refl)
+
+  -- so the answer is that of the command here
+  here : {r : Reading} → ((k : ℕ) → readFrom (suc k) file at s teams ≡ r) → r ≡ readPlan file
+  here {r} h = let (k, e) = more in sym (run .same ∙ ap (λ (f : ℕ). readFrom f file at s teams) e ∙ h k)
+
+  pub run-refused : number file at s teams ≢ 0 → refused (number file at s teams) at ≡ readPlan file
+  run-refused d = here (λ k. step-refused k file at s teams d)
+
+  pub run-end : number file at s teams ≡ 0 → isEnd (commandAt file at) ≡ true → finished file at s teams ≡ readPlan file
+  run-end z e = here (λ k. step-end k file at s teams z e)
+
+  pub run-next : number file at s teams ≡ 0 → isEnd (commandAt file at) ≡ false → next Run file at s teams
+  run-next z e =
+      let (k, f) = more in
+      let w = whole file at s (openTeam teams (s .n)) z in
+      let some = w .some in
+      let enough = run .enough in
+      record {
+        inside = w .fits;
+        few = few-teams at s (openTeam teams (s .n)) (commandAt file at) (run .few) z;
+        fuel = k;
+        enough = omega arith;
+        same = run .same ∙ ap (λ (f : ℕ). readFrom f file at s teams) f ∙ step-next k file at s teams z e;
+      }
+
+  -- a command that is carried out is passed
+  pub run-longer : number file at s teams ≡ 0 → length file - (at + lengthOf (commandAt file at)) < length file - at
+  run-longer z =
+      let w = whole file at s (openTeam teams (s .n)) z in
+      let some = w .some in
+      let fits = w .fits in
+      omega arith
+
+-- The same of the values that the code has in hand: the command here, the open team, and the number of the rule that is broken.
+module _ (file : List ℕ) (at : ℕ) (s : State) (teams : List Team) (run : Run file at s teams) (command : Command) (team : Team) (f : ℕ)
+    (is-command : command ≡ commandAt file at) (is-team : team ≡ openTeam teams (s .n)) (is-fault : f ≡ fault at s team command) where
+  found : f ≡ number file at s teams
+  found = is-fault ∙ rw (is-command, is-team) refl
+
+  pub refuses : (r : Reading) → f ≢ 0 → r ≡ refused f at → r ≡ readPlan file
+  refuses r d e = e ∙ ap (λ (k : ℕ). refused k at) found ∙ run-refused file at s teams run (λ z. d (found ∙ z))
+
+  pub ends : (r : Reading) (b : Bool) → f ≡ 0 → b ≡ isEnd command → b ≡ true → r ≡ finished file at s teams → r ≡ readPlan file
+  ends r b z eb t e = e ∙ run-end file at s teams run (sym found ∙ z) (rw is-command at (sym eb ∙ t))
+
+  pub goes-on : (s′ : State) (team′ : Team) (teams′ : List Team) (w : ℕ) (b : Bool) → f ≡ 0 → b ≡ isEnd command → b ≡ false
+      → s′ ≡ changedState s command → team′ ≡ changedTeam team command → w ≡ lengthOf command → teams′ ≡ changedTeams teams (s′ .n) team′ → Run file (at + w) s′ teams′
+  goes-on s′ team′ teams′ w b z eb t es et ew ets =
+      rw (ets, et, es, ew, is-team, is-command) (run-next file at s teams run (sym found ∙ z) (rw is-command at (sym eb ∙ t)))
+
+  pub comes-nearer : (w : ℕ) → f ≡ 0 → w ≡ lengthOf command → length file - (at + w) < length file - at
+  comes-nearer w z ew = rw (ew, is-command) (run-longer file at s teams run (sym found ∙ z))
+
+  -- the command that is carried out stands whole, and leaves at most twelve teams
+  pub stays-inside : (w : ℕ) → f ≡ 0 → w ≡ lengthOf command → at + w ≤ length file
+  stays-inside w z ew = rw (ew, is-command) (whole file at s (openTeam teams (s .n)) (sym found ∙ z) .fits)
+
+  pub stays-few : (s′ : State) → f ≡ 0 → s′ ≡ changedState s command → s′ .n ≤ 12
+  stays-few s′ z es = rw (es, is-command) (few-teams at s (openTeam teams (s .n)) (commandAt file at) (run .few) (sym found ∙ z))
+
+-- the open team is stored where there is one
+pub stores : (teams teams′ : List Team) (n : ℕ) (team : Team) → 0 < n → teams′ ≡ set teams (n - 1) team → teams′ ≡ changedTeams teams n team
+stores teams teams′ n team l e = rw (lt-ltb 0 n l) e
+
+pub keeps : (teams teams′ : List Team) (n : ℕ) (team : Team) → n ≤ 0 → teams′ ≡ teams → teams′ ≡ changedTeams teams n team
+keeps teams teams′ n team l e = rw (le-ltb 0 n l) e

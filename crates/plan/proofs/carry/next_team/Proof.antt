@@ -1,0 +1,19 @@
+use mathlib.Core.Path.{_≡_, refl, ap, sym, _∙_}
+use lib.ListN.{length}
+use lib.Seq.{set-out}
+use native.Mathlib.Omega.{arith}
+use Rattle.plan.proofs.Tests.{decided}
+use Rattle.plan.specs.Carry.{changedState}
+use borrow.Author.Needs.{needs}
+use Rattle.plan.proofs.carry.next_team.Statement.{statement}
+use Rattle.plan.proofs.carry.next_team.Tie as tie
+
+add-s : tie.Need-add-s
+add-s c = search needs
+
+returns : tie.Need-returns
+unfolding changedState
+returns c = refl
+
+pub next-team-spec : {M : Type 1} → statement M
+next-team-spec = tie.close (tie.spec add-s returns)

@@ -1,0 +1,132 @@
+-- `read` meets its contract. The invariant: the answer is what reading from here on comes to.
+use Prim.Native.Nat.{_-_}
+use mathlib.Core.Path.{_≡_, sym, ap, _∙_}
+use mathlib.Core.Logic.{⊎-elim}
+use native.Mathlib.Omega.{arith}
+use lib.ListN.{length, replicate}
+use Rattle.plan.specs.declared.State.{State}
+use Rattle.plan.specs.declared.Team.{Team}
+use Rattle.plan.proofs.Run.{Run, run-start, run-none, refuses, ends, goes-on, comes-nearer, stays-inside, stays-few, stores, keeps}
+use borrow.Author.Needs.{needs}
+use Rattle.plan.proofs.read.Statement.{statement}
+use Rattle.plan.proofs.read.Tie as tie
+use Rattle.plan.proofs.read.Reads as reads
+use Rattle.plan.proofs.read.Lts as lts
+use Rattle.plan.proofs.carry.blank.Reads as blank-reads
+use Rattle.plan.proofs.carry.changed_state.Reads as changed-state-reads
+use Rattle.plan.proofs.carry.changed_team.Reads as changed-team-reads
+use Rattle.plan.proofs.carry.nothing.Reads as nothing-reads
+use Rattle.plan.proofs.carry.open_team.Reads as open-team-reads
+use Rattle.plan.proofs.decode.byte_at.Reads as byte-at-reads
+use Rattle.plan.proofs.decode.command_at.Reads as command-at-reads
+use Rattle.plan.proofs.decode.width.Reads as width-reads
+use Rattle.plan.proofs.finish.Reads as finish-reads
+use Rattle.plan.proofs.judge.fault_of.Reads as fault-of-reads
+use Rattle.plan.proofs.judge.is_end.Reads as is-end-reads
+use Rattle.plan.proofs.refuse.Reads as refuse-reads
+
+abbrev Inv-loop : tie.InvT-loop
+Inv-loop file at₀ s₀ teams₀ at s teams = Run file at s teams
+
+abbrev μ-loop : tie.MeasureT-loop
+μ-loop file at₀ s₀ teams₀ at s teams = length file - at
+
+byte-at-requires : tie.Need-byte-at-requires Inv-loop μ-loop
+byte-at-requires c κs = search needs
+
+refuse-requires : tie.Need-refuse-requires Inv-loop μ-loop
+refuse-requires c κs = search needs
+
+returns : tie.Need-returns Inv-loop μ-loop
+returns c = c .refuse .ensures ∙ sym (run-none _ (λ e. c .before .if1 .taken (c .before .before .byte-at .ensures ∙ e)))
+
+nothing-requires : tie.Need-nothing-requires Inv-loop μ-loop
+nothing-requires c κs = search needs
+
+blank-requires : tie.Need-blank-requires Inv-loop μ-loop
+blank-requires c κs = search needs
+
+loop-holds : tie.Need-loop-holds Inv-loop μ-loop
+loop-holds c = rw (c .before .nothing .ensures, c .blank .ensures) (run-start _ (sym (c .before .before .before .byte-at .ensures) ∙ c .before .before .if1 .left))
+
+command-at-requires : tie.Need-command-at-requires Inv-loop μ-loop
+command-at-requires c κs = search needs
+
+open-team-requires : tie.Need-open-team-requires Inv-loop μ-loop
+open-team-requires c κs = c .before .loop .inv .few
+
+fault-of-requires : tie.Need-fault-of-requires Inv-loop μ-loop
+fault-of-requires c κs = search needs
+
+refuse-requires-2 : tie.Need-refuse-requires-2 Inv-loop μ-loop
+refuse-requires-2 c κs = search needs
+
+returns-2 : tie.Need-returns-2 Inv-loop μ-loop
+returns-2 c = refuses _ _ _ _ (c .before .before .before .before .before .loop .inv) _ _ _ (c .before .before .before .before .command-at .ensures) (c .before .before .before .open-team .ensures) (c .before .before .fault-of .ensures) _ (c .before .if2 .taken) (c .refuse2 .ensures)
+
+is-end-requires : tie.Need-is-end-requires Inv-loop μ-loop
+is-end-requires c κs = search needs
+
+finish-requires : tie.Need-finish-requires Inv-loop μ-loop
+finish-requires c κs = search needs
+
+returns-3 : tie.Need-returns-3 Inv-loop μ-loop
+returns-3 c = ends _ _ _ _ (c .before .before .before .before .before .before .before .loop .inv) _ _ _ (c .before .before .before .before .before .before .command-at .ensures) (c .before .before .before .before .before .open-team .ensures) (c .before .before .before .before .fault-of .ensures) _ _ (c .before .before .before .if2 .left) (c .before .before .is-end .ensures) (c .before .if3 .taken) (c .finish .ensures)
+
+changed-team-requires : tie.Need-changed-team-requires Inv-loop μ-loop
+changed-team-requires c κs = search needs
+
+changed-state-requires : tie.Need-changed-state-requires Inv-loop μ-loop
+changed-state-requires c κs = c .before .before .before .before .before .before .before .loop .inv .few
+
+sub-teams : tie.Need-sub-teams Inv-loop μ-loop
+sub-teams c = search needs
+
+mul-teams : tie.Need-mul-teams Inv-loop μ-loop
+mul-teams c = omega (arith, stays-few _ _ _ _ (c .before .before .before .before .before .before .before .before .before .loop .inv) _ _ _ (c .before .before .before .before .before .before .before .before .command-at .ensures) (c .before .before .before .before .before .before .before .open-team .ensures) (c .before .before .before .before .before .before .fault-of .ensures) _ (c .before .before .before .before .before .if2 .left) (c .before .changed-state .ensures))
+
+array-set-from-teams : tie.Need-array-set-from-teams Inv-loop μ-loop
+array-set-from-teams c = omega (arith, c .if4 .taken, stays-few _ _ _ _ (c .before .before .before .before .before .before .before .before .before .loop .inv) _ _ _ (c .before .before .before .before .before .before .before .before .command-at .ensures) (c .before .before .before .before .before .before .before .open-team .ensures) (c .before .before .before .before .before .before .fault-of .ensures) _ (c .before .before .before .before .before .if2 .left) (c .before .changed-state .ensures))
+
+width-requires : tie.Need-width-requires Inv-loop μ-loop
+width-requires c κs = search needs
+
+add-at : tie.Need-add-at Inv-loop μ-loop
+add-at c = omega (arith, c .before .before .before .before .before .before .before .before .before .before .before .before .before .before .before .before .good, stays-inside _ _ _ _ (c .before .before .before .before .before .before .before .before .before .before .loop .inv) _ _ _ (c .before .before .before .before .before .before .before .before .before .command-at .ensures) (c .before .before .before .before .before .before .before .before .open-team .ensures) (c .before .before .before .before .before .before .before .fault-of .ensures) _ (c .before .before .before .before .before .before .if2 .left) (c .width .ensures))
+
+loop-less : tie.Need-loop-less Inv-loop μ-loop
+loop-less c = comes-nearer _ _ _ _ (c .before .before .before .before .before .before .before .before .before .before .loop .inv) _ _ _ (c .before .before .before .before .before .before .before .before .before .command-at .ensures) (c .before .before .before .before .before .before .before .before .open-team .ensures) (c .before .before .before .before .before .before .before .fault-of .ensures) _ (c .before .before .before .before .before .before .if2 .left) (c .width .ensures)
+
+loop-again : tie.Need-loop-again Inv-loop μ-loop
+loop-again c = goes-on _ _ _ _ (c .before .before .before .before .before .before .before .before .before .before .loop .inv) _ _ _ (c .before .before .before .before .before .before .before .before .before .command-at .ensures) (c .before .before .before .before .before .before .before .before .open-team .ensures) (c .before .before .before .before .before .before .before .fault-of .ensures) _ _ _ _ _ (c .before .before .before .before .before .before .if2 .left) (c .before .before .before .before .before .is-end .ensures) (c .before .before .before .before .if3 .left) (c .before .before .changed-state .ensures) (c .before .before .before .changed-team .ensures) (c .width .ensures)
+        (⊎-elim (λ w. stores (c .before .before .before .before .before .before .before .before .before .before .loop .teams) _ _ (c .before .before .before .changed-team .result) (w .0 .taken) (w .1)) (λ w. keeps (c .before .before .before .before .before .before .before .before .before .before .loop .teams) _ _ (c .before .before .before .changed-team .result) (w .0 .left) (w .1)) (c .before .if4 .came))
+
+pub read-spec : {M : Type 1} → statement M
+read-spec =
+    tie.close
+    (tie.spec
+    Inv-loop
+    μ-loop
+    byte-at-requires
+    refuse-requires
+    returns
+    nothing-requires
+    blank-requires
+    loop-holds
+    command-at-requires
+    open-team-requires
+    fault-of-requires
+    refuse-requires-2
+    returns-2
+    is-end-requires
+    finish-requires
+    returns-3
+    changed-team-requires
+    changed-state-requires
+    sub-teams
+    mul-teams
+    array-set-from-teams
+    width-requires
+    add-at
+    loop-less
+    loop-again)

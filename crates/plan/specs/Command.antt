@@ -1,0 +1,53 @@
+-- What stands at an offset of a plan file (document 01, "The plan file").
+use Prim.Native.Nat.{ℕ, _+_}
+use mathlib.Core.Bool.{Bool, true, false, cond}
+use mathlib.Core.List.{List, [], _∷_}
+use lib.Dec.{eqb, leb, ltb}
+use lib.ListN.{length, getD}
+use Rattle.plan.specs.declared.Command.{Command}
+use Rattle.plan.specs.declared.Command.the-variants.{Missing, Unknown, Short, Start, Caps, Loops, Class, Put, Span, End}
+
+-- the kinds of team, by the byte that opens one: 02 CAPS, 03 LOOPS
+abbrev pub capsKind : ℕ
+capsKind = 2
+
+abbrev pub loopsKind : ℕ
+loopsKind = 3
+
+-- How many bytes a command has, its operands included: 01 START 3, 02 CAPS 2, 03 LOOPS 2, 04 CLASS 3, 05 PUT 3, 06 SPAN 4, 07 END 1.
+-- Any other byte has 0.
+abbrev pub widthOf : ℕ → ℕ
+widthOf byte = getD (0 ∷ 3 ∷ 2 ∷ 2 ∷ 3 ∷ 3 ∷ 4 ∷ 1 ∷ []) byte 0
+
+-- the command of a byte from 01 to 07, with the operands that it takes of these
+abbrev pub commandOf : (byte a b c : ℕ) → Command
+commandOf byte a b c =
+    cond (eqb byte 1) (Start a b)
+    (cond (eqb byte 2) (Caps a)
+    (cond (eqb byte 3) (Loops a)
+    (cond (eqb byte 4) (Class a b)
+    (cond (eqb byte 5) (Put a b)
+    (cond (eqb byte 6) (Span a b c)
+    End)))))
+
+-- the command at an offset, or that the file ends there, that the byte is not 01 to 07, or that operands are cut short
+unfoldable pub commandAt : List ℕ → ℕ → Command
+commandAt file at =
+    let byte = getD file at 0 in
+    cond (leb (length file) at) Missing
+    (cond (eqb (widthOf byte) 0) Unknown
+    (cond (leb (at + widthOf byte) (length file)) (commandOf byte (getD file (at + 1) 0) (getD file (at + 2) 0) (getD file (at + 3) 0))
+    Short))
+
+-- how many bytes a command has
+abbrev pub lengthOf : Command → ℕ
+lengthOf Missing = 0
+lengthOf Unknown = 0
+lengthOf Short = 0
+lengthOf (Start version m) = 3
+lengthOf (Caps channels) = 2
+lengthOf (Loops channels) = 2
+lengthOf (Class class cap) = 3
+lengthOf (Put instrument class) = 3
+lengthOf (Span instrument a b) = 4
+lengthOf End = 1

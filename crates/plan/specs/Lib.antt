@@ -1,0 +1,4 @@
+pub mod Command
+pub mod Fault
+pub mod Carry
+pub mod Read

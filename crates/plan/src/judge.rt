@@ -1,0 +1,125 @@
+// Which rule a command breaks first. 0: none.
+ghost use mathlib.Core.Path.{_≡_};
+ghost use Rattle.plan.specs.Fault.{fault, startFault, teamFault, classFault, putFault, spanFault, endFault, isEnd, named};
+use super::Command;
+use super::State;
+use super::Team;
+
+fn start_fault(at: usize, version: u8, m: u8) -> usize
+    ensures { λ r. ⌜ r ≡ startFault at version m ⌝ }
+{
+    if at != 0 {
+        return 4;
+    }
+    if version != 1 {
+        return 5;
+    }
+    if m > 64 { 5 } else { 0 }
+}
+
+fn team_fault(s: State) -> usize
+    ensures { λ r. ⌜ r ≡ teamFault s ⌝ }
+{
+    if s.n >= 12 { 7 } else { 0 }
+}
+
+fn class_fault(s: State, kind: u8, class: u8) -> usize
+    ensures { λ r. ⌜ r ≡ classFault s kind class ⌝ }
+{
+    if kind != 2 {
+        return 4;
+    }
+    if class >= 16 {
+        return 5;
+    }
+    if s.capped[class as usize] { 6 } else { 0 }
+}
+
+fn put_fault(s: State, team: Team, instrument: u8, class: u8) -> usize
+    ensures { λ r. ⌜ r ≡ putFault s team instrument class ⌝ }
+{
+    let i = instrument as usize;
+    if team.kind != 2 {
+        return 4;
+    }
+    if i >= s.m {
+        return 5;
+    }
+    if class >= 16 {
+        return 5;
+    }
+    let table = team.class;
+    if named(table, i) { 6 } else { 0 }
+}
+
+fn span_fault(s: State, team: Team, instrument: u8, a: u8, b: u8) -> usize
+    ensures { λ r. ⌜ r ≡ spanFault s team instrument a b ⌝ }
+{
+    let i = instrument as usize;
+    if team.kind != 3 {
+        return 4;
+    }
+    if i >= s.m {
+        return 5;
+    }
+    if a >= 64 {
+        return 5;
+    }
+    if b >= 64 {
+        return 5;
+    }
+    if a == b {
+        return 8;
+    }
+    let table = team.first;
+    if named(table, i) { 6 } else { 0 }
+}
+
+fn end_fault(s: State) -> usize
+    ensures { λ r. ⌜ r ≡ endFault s ⌝ }
+{
+    if s.n == 0 { 4 } else { 0 }
+}
+
+// The number of the first rule that a command breaks.
+pub fn fault_of(at: usize, s: State, team: Team, command: Command) -> usize
+    ensures { λ r. ⌜ r ≡ fault at s team command ⌝ }
+{
+    match command {
+        Command::Missing => 2,
+        Command::Unknown => 3,
+        Command::Short => 2,
+        Command::Start(version, m) => start_fault(at, version, m),
+        Command::Caps(_) => team_fault(s),
+        Command::Loops(_) => team_fault(s),
+        Command::Class(class, _) => class_fault(s, team.kind, class),
+        Command::Put(i, class) => put_fault(s, team, i, class),
+        Command::Span(i, a, b) => span_fault(s, team, i, a, b),
+        Command::End => end_fault(s),
+    }
+}
+
+// Whether the command is END.
+pub fn is_end(command: Command) -> bool
+    ensures { λ r. ⌜ r ≡ isEnd command ⌝ }
+{
+    match command {
+        Command::Missing => false,
+        Command::Unknown => false,
+        Command::Short => false,
+        Command::Start(_, _) => false,
+        Command::Caps(_) => false,
+        Command::Loops(_) => false,
+        Command::Class(_, _) => false,
+        Command::Put(_, _) => false,
+        Command::Span(_, _, _) => false,
+        Command::End => true,
+    }
+}
+
+// Whether a team's table names an instrument.
+fn named(table: [u8; 64], i: usize) -> bool
+    ensures { λ r. ⌜ r ≡ named table i ⌝ }
+{
+    if i < 64 { table[i] != 255 } else { false }
+}
