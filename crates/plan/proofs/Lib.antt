@@ -1,3 +1,7 @@
 pub mod Tests
 pub mod Lists
+pub mod Tables
+pub mod Kept
+pub mod Steps
 pub mod Run
+pub mod Bounds

@@ -18,51 +18,7 @@ use Rattle.plan.specs.Command.{widthOf, commandOf, commandAt, lengthOf}
 use Rattle.plan.specs.Fault.{fault, isEnd}
 use Rattle.plan.specs.Carry.{blankTeam, start, openTeam, changedTeam, changedState}
 use Rattle.plan.specs.Read.{refused, finished, changedTeams, readFrom, readPlan}
-
--- a command has as many bytes as its first byte says
-length-command : (byte a b c : ℕ) → widthOf byte ≢ 0 → lengthOf (commandOf byte a b c) ≡ widthOf byte
-length-command zero a b c d = absurd (d refl)
-length-command (suc zero) a b c d = refl
-length-command (suc (suc zero)) a b c d = refl
-length-command (suc (suc (suc zero))) a b c d = refl
-length-command (suc (suc (suc (suc zero)))) a b c d = refl
-length-command (suc (suc (suc (suc (suc zero))))) a b c d = refl
-length-command (suc (suc (suc (suc (suc (suc zero)))))) a b c d = refl
-length-command (suc (suc (suc (suc (suc (suc (suc zero))))))) a b c d = refl
-length-command (suc (suc (suc (suc (suc (suc (suc (suc k)))))))) a b c d = absurd (d refl)
-
--- a command that stands whole at an offset
-pub record Whole (file : List ℕ) (at : ℕ) (command : Command) : Type 0 where
-  pub some : 0 < lengthOf command
-  pub fits : at + lengthOf command ≤ length file
-
--- a command that breaks no rule stands whole
-pub whole : (file : List ℕ) (at : ℕ) (s : State) (team : Team) → fault at s team (commandAt file at) ≡ 0 → Whole file at (commandAt file at)
-unfolding commandAt fault
-whole file at s team = ends (leb (length file) at)
-  where
-    byte : ℕ
-    byte = getD file at 0
-
-    command : Command
-    command = commandOf byte (getD file (at + 1) 0) (getD file (at + 2) 0) (getD file (at + 3) 0)
-
-    short : (b : Bool) → leb (at + widthOf byte) (length file) ≡ b → widthOf byte ≢ 0 → fault at s team (cond b command Short) ≡ 0 → Whole file at (cond b command Short)
-    short true t w e =
-        let same = length-command byte (getD file (at + 1) 0) (getD file (at + 2) 0) (getD file (at + 3) 0) w in
-        let room = leb-true (at + widthOf byte) (length file) t in
-        record { some = omega arith; fits = omega arith }
-    short false t w e = absurd (omega arith)
-
-    unknown : (b : Bool) → eqb (widthOf byte) 0 ≡ b → fault at s team (cond b Unknown (cond (leb (at + widthOf byte) (length file)) command Short)) ≡ 0
-        → Whole file at (cond b Unknown (cond (leb (at + widthOf byte) (length file)) command Short))
-    unknown true t e = absurd (omega arith)
-    unknown false t e = short (leb (at + widthOf byte) (length file)) refl (eqb-false (widthOf byte) 0 t) e
-
-    ends : (b : Bool) → fault at s team (cond b Missing (cond (eqb (widthOf byte) 0) Unknown (cond (leb (at + widthOf byte) (length file)) command Short))) ≡ 0
-        → Whole file at (cond b Missing (cond (eqb (widthOf byte) 0) Unknown (cond (leb (at + widthOf byte) (length file)) command Short)))
-    ends true e = absurd (omega arith)
-    ends false e = unknown (eqb (widthOf byte) 0) refl e
+use Rattle.plan.proofs.Steps.{Whole, whole, number, next, step-refused, step-end, step-next, plan-start}
 
 -- a thirteenth team is refused
 room : (n : ℕ) (b : Bool) → leb 12 n ≡ b → _≡_ {A = ℕ} (cond b 7 0) 0 → n + 1 ≤ 12
@@ -92,40 +48,7 @@ pub record Run (file : List ℕ) (at : ℕ) (s : State) (teams : List Team) : Ty
 
 -- at the start
 pub run-start : (file : List ℕ) → getD file 0 0 ≡ 1 → Run file 0 start (replicate 12 blankTeam)
-unfolding readPlan
-run-start file e = record { inside = omega arith; few = omega arith; fuel = suc (length file); enough = omega arith; same = rw (eq-eqb (getD file 0 0) 1 e, readPlan) refl }
-
--- a file that starts otherwise is refused
-pub run-none : (file : List ℕ) → getD file 0 0 ≢ 1 → readPlan file ≡ refused 1 0
-unfolding readPlan
-run-none file d = rw (ne-eqb (getD file 0 0) 1 d, readPlan) refl
-
--- ---- one command
-
--- the command at an offset, and the rule that it breaks
-abbrev pub number : List ℕ → ℕ → State → List Team → ℕ
-number file at s teams = fault at s (openTeam teams (s .n)) (commandAt file at)
-
--- where a command that breaks no rule leads
-abbrev pub next : (List ℕ → ℕ → State → List Team → Type 0) → List ℕ → ℕ → State → List Team → Type 0
-next P file at s teams =
-    let command = commandAt file at in
-    let s′ = changedState s command in
-    P file (at + lengthOf command) s′ (changedTeams teams (s′ .n) (changedTeam (openTeam teams (s .n)) command))
-
-module _ (fuel : ℕ) (file : List ℕ) (at : ℕ) (s : State) (teams : List Team) where
-  -- the three ways of a command
-  step-refused : number file at s teams ≢ 0 → readFrom (suc fuel) file at s teams ≡ refused (number file at s teams) at
-  unfolding readFrom
-  step-refused d = rw (ne-eqb (number file at s teams) 0 d, readFrom) refl
-
-  step-end : number file at s teams ≡ 0 → isEnd (commandAt file at) ≡ true → readFrom (suc fuel) file at s teams ≡ finished file at s teams
-  unfolding readFrom
-  step-end z e = rw (eq-eqb (number file at s teams) 0 z, e, readFrom) refl
-
-  step-next : number file at s teams ≡ 0 → isEnd (commandAt file at) ≡ false → next (λ file′ at′ s′ teams′. readFrom (suc fuel) file at s teams ≡ readFrom fuel file′ at′ s′ teams′) file at s teams
-  unfolding readFrom
-  step-next z e = rw (eq-eqb (number file at s teams) 0 z, e, readFrom) refl
+run-start file e = record { inside = omega arith; few = omega arith; fuel = suc (length file); enough = omega arith; same = plan-start file e }
 
 module _ (file : List ℕ) (at : ℕ) (s : State) (teams : List Team) (run : Run file at s teams) where
   -- while the end is not passed there is fuel for one command more

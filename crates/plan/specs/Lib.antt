@@ -2,3 +2,4 @@ pub mod Command
 pub mod Fault
 pub mod Carry
 pub mod Read
+pub mod Valid

@@ -6,7 +6,8 @@ use native.Mathlib.Omega.{arith}
 use lib.ListN.{length, replicate}
 use Rattle.plan.specs.declared.State.{State}
 use Rattle.plan.specs.declared.Team.{Team}
-use Rattle.plan.proofs.Run.{Run, run-start, run-none, refuses, ends, goes-on, comes-nearer, stays-inside, stays-few, stores, keeps}
+use Rattle.plan.proofs.Steps.{plan-none}
+use Rattle.plan.proofs.Run.{Run, run-start, refuses, ends, goes-on, comes-nearer, stays-inside, stays-few, stores, keeps}
 use borrow.Author.Needs.{needs}
 use Rattle.plan.proofs.read.Statement.{statement}
 use Rattle.plan.proofs.read.Tie as tie
@@ -38,7 +39,7 @@ refuse-requires : tie.Need-refuse-requires Inv-loop μ-loop
 refuse-requires c κs = search needs
 
 returns : tie.Need-returns Inv-loop μ-loop
-returns c = c .refuse .ensures ∙ sym (run-none _ (λ e. c .before .if1 .taken (c .before .before .byte-at .ensures ∙ e)))
+returns c = c .refuse .ensures ∙ sym (plan-none _ (λ e. c .before .if1 .taken (c .before .before .byte-at .ensures ∙ e)))
 
 nothing-requires : tie.Need-nothing-requires Inv-loop μ-loop
 nothing-requires c κs = search needs

@@ -1,0 +1,214 @@
+-- The theorems about readings: how long an accepted file is, where refusals stand, what an accepted reading holds, and that the first 4,096
+-- bytes of a file decide its reading.
+use Prim.Native.Nat.{ℕ, zero, suc, _+_, _≤_, _<_}
+use mathlib.Core.Path.{_≡_, refl, sym, ap, _∙_, subst}
+use mathlib.Core.Bool.{Bool, true, false, cond, false≢true}
+use mathlib.Core.Logic.{_≢_}
+use mathlib.Core.List.{List}
+use native.Mathlib.Omega.{arith}
+use native.Mathlib.Decide.{decLe, ℕ-discrete}
+use lib.Dec.{eqb, leb, ltb}
+use lib.ListN.{length, getD, take, replicate, length-take}
+use lib.Seq.{take-all, getD-take}
+use borrow.Author.Tests.{ltb-false, ltb-true, eqb-true, eqb-false, eq-eqb, ne-eqb, lt-leb, le-leb, lt-ltb}
+use Rattle.plan.specs.declared.Command.{Command}
+use Rattle.plan.specs.declared.Command.the-variants.{Missing, Unknown, Short, Start, Caps, Loops, Class, Put, Span, End}
+use Rattle.plan.specs.declared.Reading.{Reading}
+use Rattle.plan.specs.declared.State.{State}
+use Rattle.plan.specs.declared.Team.{Team}
+use Rattle.plan.specs.Command.{widthOf, commandOf, commandAt, lengthOf}
+use Rattle.plan.specs.Fault.{fault, isEnd}
+use Rattle.plan.specs.Carry.{blankTeam, start, openTeam, changedTeam, changedState}
+use Rattle.plan.specs.Read.{refused, accepted, finished, changedTeams, readFrom, readPlan}
+use Rattle.plan.specs.Valid.{Valid}
+use Rattle.plan.proofs.Kept.{Kept, kept-at, kept-start, kept-next}
+use Rattle.plan.proofs.Steps.{Whole, whole, number, step-refused, step-end, step-next, plan-start, plan-none}
+
+-- What holds of every refusal and of every end holds of every reading.
+module _ (file : List ℕ) (P : Reading → Type 0)
+    (at-fault : (at : ℕ) (s : State) (teams : List Team) → Kept at s teams → at ≤ length file → number file at s teams ≢ 0 → P (refused (number file at s teams) at))
+    (at-end : (at : ℕ) (s : State) (teams : List Team) → Kept at s teams → at + lengthOf (commandAt file at) ≤ length file → number file at s teams ≡ 0 → isEnd (commandAt file at) ≡ true → P (finished file at s teams)) where
+  from : (fuel at : ℕ) (s : State) (teams : List Team) → Kept at s teams → at ≤ length file → length file < at + fuel → P (readFrom fuel file at s teams)
+  from zero at s teams k inside enough = absurd (omega arith)
+  from (suc fuel) at s teams k inside enough = go (λ z. whole file at s (openTeam teams (s .n)) z) (ℕ-discrete (number file at s teams) 0) (isEnd (commandAt file at)) refl
+      (λ (z : number file at s teams ≡ 0) (e : isEnd (commandAt file at) ≡ false) (w : Whole file at (commandAt file at)).
+          let command = commandAt file at in
+          let some = w .some in
+          from fuel (at + lengthOf command) (changedState s command) (changedTeams teams (changedState s command .n) (changedTeam (openTeam teams (s .n)) command))
+          (kept-next at s teams command k z e) (w .fits) (omega arith))
+    where
+      go : (number file at s teams ≡ 0 → Whole file at (commandAt file at)) → Dec (number file at s teams ≡ 0) → (b : Bool) → isEnd (commandAt file at) ≡ b
+          → (number file at s teams ≡ 0 → isEnd (commandAt file at) ≡ false → Whole file at (commandAt file at)
+            → P (readFrom fuel file (at + lengthOf (commandAt file at)) (changedState s (commandAt file at)) (changedTeams teams (changedState s (commandAt file at) .n) (changedTeam (openTeam teams (s .n)) (commandAt file at)))))
+          → P (readFrom (suc fuel) file at s teams)
+      go stands (no d) b e rest = rw (step-refused fuel file at s teams d) (at-fault at s teams k inside d)
+      go stands (yes z) true e rest = rw (step-end fuel file at s teams z e) (at-end at s teams k (stands z .fits) z e)
+      go stands (yes z) false e rest = rw (step-next fuel file at s teams z e) (rest z e (stands z))
+
+  -- so of every file that starts with a START byte, and of the refusal of any other
+  all-readings : P (refused 1 0) → P (readPlan file)
+  all-readings none = go (ℕ-discrete (getD file 0 0) 1)
+    where
+      go : Dec (getD file 0 0 ≡ 1) → P (readPlan file)
+      go (yes e) = rw (plan-start file e) (from (suc (length file)) 0 start (replicate 12 blankTeam) kept-start (omega arith) (omega arith))
+      go (no d) = rw (plan-none file d) none
+
+-- ---- the bounds
+
+-- only END is an END
+is-end : (command : Command) → isEnd command ≡ true → command ≡ End
+is-end Missing e = absurd (false≢true e)
+is-end Unknown e = absurd (false≢true e)
+is-end Short e = absurd (false≢true e)
+is-end (Start version m) e = absurd (false≢true e)
+is-end (Caps channels) e = absurd (false≢true e)
+is-end (Loops channels) e = absurd (false≢true e)
+is-end (Class class most) e = absurd (false≢true e)
+is-end (Put instrument class) e = absurd (false≢true e)
+is-end (Span instrument a b) e = absurd (false≢true e)
+is-end End e = refl
+
+-- an END that breaks no rule has a team before it
+end-some : (at : ℕ) (s : State) (team : Team) (command : Command) → isEnd command ≡ true → fault at s team command ≡ 0 → 1 ≤ s .n
+unfolding fault
+end-some at s team command e z = go (eqb (s .n) 0) refl (subst (λ (c : Command). fault at s team c ≡ 0) (is-end command e) z)
+  where
+    go : (b : Bool) → eqb (s .n) 0 ≡ b → _≡_ {A = ℕ} (cond b 4 0) 0 → 1 ≤ s .n
+    go true t z = absurd (omega arith)
+    go false t z = let d = eqb-false (s .n) 0 t in omega arith
+
+-- what is known of a reading
+pub record Bounded (file : List ℕ) (r : Reading) : Type 0 where
+  -- every refusal's place is at most 3,100
+  pub place : r .place ≤ 3100
+  -- an accepted file has at most 3,100 bytes
+  pub short : r .refusal ≡ 0 → length file ≤ 3100
+  -- and its reading is in order
+  pub valid : r .refusal ≡ 0 → Valid r
+
+pub bounded : (file : List ℕ) → Bounded file (readPlan file)
+bounded file = all-readings file (Bounded file) at-fault at-end (record { place = omega arith; short = λ e. absurd (omega arith); valid = λ e. absurd (omega arith) })
+  where
+    at-fault : (at : ℕ) (s : State) (teams : List Team) → Kept at s teams → at ≤ length file → number file at s teams ≢ 0 → Bounded file (refused (number file at s teams) at)
+    at-fault at s teams k inside d = record { place = let l = kept-at k in omega arith; short = λ e. absurd (d e); valid = λ e. absurd (d e) }
+
+    ended : (at : ℕ) (s : State) (teams : List Team) → Kept at s teams → 1 ≤ s .n → (b : Bool) → ltb (at + 1) (length file) ≡ b → Bounded file (cond b (refused 9 (at + 1)) (accepted s teams))
+    ended at s teams k some true t = record { place = let l = kept-at k in omega arith; short = λ e. absurd (omega arith); valid = λ e. absurd (omega arith) }
+    ended at s teams k some false t = record {
+      place = omega arith;
+      short = λ _. let l = kept-at k in let h = ltb-false (at + 1) (length file) t in omega arith;
+      valid = λ _. record { teams-long = k .teams-long; some = some; few = k .few; small = k .small; team = k .kept };
+    }
+
+    at-end : (at : ℕ) (s : State) (teams : List Team) → Kept at s teams → at + lengthOf (commandAt file at) ≤ length file → number file at s teams ≡ 0 → isEnd (commandAt file at) ≡ true → Bounded file (finished file at s teams)
+    at-end at s teams k fits z e = ended at s teams k (end-some at s (openTeam teams (s .n)) (commandAt file at) e z) (ltb (at + 1) (length file)) refl
+
+-- ---- a file's first bytes decide its reading
+
+-- no command has more than 4 bytes
+width-le : (byte : ℕ) → widthOf byte ≤ 4
+width-le zero = omega arith
+width-le (suc zero) = omega arith
+width-le (suc (suc zero)) = omega arith
+width-le (suc (suc (suc zero))) = omega arith
+width-le (suc (suc (suc (suc zero)))) = omega arith
+width-le (suc (suc (suc (suc (suc zero))))) = omega arith
+width-le (suc (suc (suc (suc (suc (suc zero)))))) = omega arith
+width-le (suc (suc (suc (suc (suc (suc (suc zero))))))) = omega arith
+width-le (suc (suc (suc (suc (suc (suc (suc (suc k)))))))) = omega arith
+
+-- a command whose four bytes are in a file, whatever follows them
+abbrev four : List ℕ → ℕ → Command
+four file at =
+    let byte = getD file at 0 in
+    cond (eqb (widthOf byte) 0) Unknown (commandOf byte (getD file (at + 1) 0) (getD file (at + 2) 0) (getD file (at + 3) 0))
+
+inside-four : (file : List ℕ) (at : ℕ) → at + 4 ≤ length file → commandAt file at ≡ four file at
+unfolding commandAt
+inside-four file at l =
+    let w = width-le (getD file at 0) in
+    rw (lt-leb (length file) at (omega arith), le-leb (at + widthOf (getD file at 0)) (length file) (omega arith), commandAt) refl
+
+module _ (file : List ℕ) (w : ℕ) (enough : 3104 ≤ w) (long : w ≤ length file) where
+  window : List ℕ
+  window = take w file
+
+  window-length : length window ≡ w
+  unfolding window
+  window-length = length-take w file ∙ (omega arith)
+
+  -- the same command
+  same-command : (at : ℕ) → at ≤ 3099 → commandAt window at ≡ commandAt file at
+  unfolding window
+  same-command at l =
+      let e = window-length in
+      inside-four (take w file) at (omega arith)
+      ∙ rw (getD-take w file at 0 (omega arith), getD-take w file (at + 1) 0 (omega arith), getD-take w file (at + 2) 0 (omega arith), getD-take w file (at + 3) 0 (omega arith))
+      (sym (inside-four file at (omega arith)))
+
+  -- END is followed by more in either
+  same-end : (at : ℕ) (s : State) (teams : List Team) → at ≤ 3099 → finished window at s teams ≡ finished file at s teams
+  same-end at s teams l =
+      let e = window-length in
+      rw (lt-ltb (at + 1) (length window) (omega arith), lt-ltb (at + 1) (length file) (omega arith)) refl
+
+  same-number : (at : ℕ) (s : State) (teams : List Team) → at ≤ 3099 → number window at s teams ≡ number file at s teams
+  same-number at s teams l = ap (fault at s (openTeam teams (s .n))) (same-command at l)
+
+  same-from : (fuel fuel′ at : ℕ) (s : State) (teams : List Team) → Kept at s teams → at ≤ w → w < at + fuel → length file < at + fuel′
+      → readFrom fuel window at s teams ≡ readFrom fuel′ file at s teams
+  same-from zero fuel′ at s teams k inside a b = absurd (omega arith)
+  same-from (suc fuel) zero at s teams k inside a b = absurd (omega arith)
+  same-from (suc fuel) (suc fuel′) at s teams k inside a b =
+      go (ℕ-discrete (number file at s teams) 0) (isEnd (commandAt file at)) refl
+      (λ (z : number file at s teams ≡ 0) (e : isEnd (commandAt file at) ≡ false) (some : 0 < lengthOf (commandAt file at)) (fits : at + lengthOf (commandAt file at) ≤ w).
+          let command = commandAt file at in
+          same-from fuel fuel′ (at + lengthOf command) (changedState s command) (changedTeams teams (changedState s command .n) (changedTeam (openTeam teams (s .n)) command))
+          (kept-next at s teams command k z e) fits (omega arith) (omega arith))
+    where
+      l : at ≤ 3099
+      l = kept-at k
+
+      go : Dec (number file at s teams ≡ 0) → (b : Bool) → isEnd (commandAt file at) ≡ b
+          → (number file at s teams ≡ 0 → isEnd (commandAt file at) ≡ false → 0 < lengthOf (commandAt file at) → at + lengthOf (commandAt file at) ≤ w
+            → readFrom fuel window (at + lengthOf (commandAt file at)) (changedState s (commandAt file at)) (changedTeams teams (changedState s (commandAt file at) .n) (changedTeam (openTeam teams (s .n)) (commandAt file at)))
+            ≡ readFrom fuel′ file (at + lengthOf (commandAt file at)) (changedState s (commandAt file at)) (changedTeams teams (changedState s (commandAt file at) .n) (changedTeam (openTeam teams (s .n)) (commandAt file at))))
+          → readFrom (suc fuel) window at s teams ≡ readFrom (suc fuel′) file at s teams
+      go (no d) b e rest =
+          step-refused fuel window at s teams (λ z. d (sym (same-number at s teams l) ∙ z))
+          ∙ ap (λ (x : ℕ). refused x at) (same-number at s teams l)
+          ∙ sym (step-refused fuel′ file at s teams d)
+      go (yes z) true e rest =
+          step-end fuel window at s teams (same-number at s teams l ∙ z) (ap isEnd (same-command at l) ∙ e)
+          ∙ same-end at s teams l
+          ∙ sym (step-end fuel′ file at s teams z e)
+      go (yes z) false e rest =
+          let there = whole window at s (openTeam teams (s .n)) (same-number at s teams l ∙ z) in
+          let len = window-length in
+          let same = ap lengthOf (same-command at l) in
+          let fits = there .fits in
+          let some = there .some in
+          step-next fuel window at s teams (same-number at s teams l ∙ z) (ap isEnd (same-command at l) ∙ e)
+          ∙ rw (same-command at l) (rest z e (omega arith) (omega arith))
+          ∙ sym (step-next fuel′ file at s teams z e)
+
+  -- the window is read as the file is
+  same-reading : readPlan window ≡ readPlan file
+  unfolding window
+  same-reading = go (ℕ-discrete (getD file 0 0) 1)
+    where
+      first : getD window 0 0 ≡ getD file 0 0
+      first = getD-take w file 0 0 (omega arith)
+
+      go : Dec (getD file 0 0 ≡ 1) → readPlan window ≡ readPlan file
+      go (yes e) =
+          let len = window-length in
+          plan-start window (first ∙ e)
+          ∙ same-from (suc (length window)) (suc (length file)) 0 start (replicate 12 blankTeam) kept-start (omega arith) (omega arith) (omega arith)
+          ∙ sym (plan-start file e)
+      go (no d) = plan-none window (λ e. d (sym first ∙ e)) ∙ sym (plan-none file d)
+
+-- reading the first 4,096 bytes of a file gives the same answer as reading all of it
+pub first-bytes : (file : List ℕ) → readPlan (take 4096 file) ≡ readPlan file
+unfolding window
+first-bytes file = elim (decLe 4096 (length file)) [ yes l ↦ same-reading file 4096 (omega arith) l | no d ↦ ap readPlan (take-all 4096 file (omega arith)) ]

@@ -1,0 +1,99 @@
+-- One command of a plan: where it stands whole, and what reading it comes to.
+use Prim.Native.Nat.{ℕ, zero, suc, _+_, _-_, _≤_, _<_}
+use mathlib.Core.Path.{_≡_, refl, sym, ap, _∙_}
+use mathlib.Core.Bool.{Bool, true, false, cond}
+use mathlib.Core.Logic.{_≢_}
+use mathlib.Core.List.{List}
+use native.Mathlib.Omega.{arith}
+use native.Mathlib.Decide.{decLt, decLe, ℕ-discrete}
+use lib.Dec.{eqb, leb, ltb}
+use lib.ListN.{length, getD, set, replicate}
+use borrow.Author.Tests.{eq-eqb, ne-eqb, le-leb, lt-leb, leb-true, leb-false, eqb-true, eqb-false, lt-ltb, le-ltb}
+use Rattle.plan.specs.declared.Command.{Command}
+use Rattle.plan.specs.declared.Command.the-variants.{Missing, Unknown, Short, Start, Caps, Loops, Class, Put, Span, End}
+use Rattle.plan.specs.declared.Reading.{Reading}
+use Rattle.plan.specs.declared.State.{State}
+use Rattle.plan.specs.declared.Team.{Team}
+use Rattle.plan.specs.Command.{widthOf, commandOf, commandAt, lengthOf}
+use Rattle.plan.specs.Fault.{fault, isEnd}
+use Rattle.plan.specs.Carry.{blankTeam, start, openTeam, changedTeam, changedState}
+use Rattle.plan.specs.Read.{refused, finished, changedTeams, readFrom, readPlan}
+
+-- a command has as many bytes as its first byte says
+length-command : (byte a b c : ℕ) → widthOf byte ≢ 0 → lengthOf (commandOf byte a b c) ≡ widthOf byte
+length-command zero a b c d = absurd (d refl)
+length-command (suc zero) a b c d = refl
+length-command (suc (suc zero)) a b c d = refl
+length-command (suc (suc (suc zero))) a b c d = refl
+length-command (suc (suc (suc (suc zero)))) a b c d = refl
+length-command (suc (suc (suc (suc (suc zero))))) a b c d = refl
+length-command (suc (suc (suc (suc (suc (suc zero)))))) a b c d = refl
+length-command (suc (suc (suc (suc (suc (suc (suc zero))))))) a b c d = refl
+length-command (suc (suc (suc (suc (suc (suc (suc (suc k)))))))) a b c d = absurd (d refl)
+
+-- a command that stands whole at an offset
+pub record Whole (file : List ℕ) (at : ℕ) (command : Command) : Type 0 where
+  pub some : 0 < lengthOf command
+  pub fits : at + lengthOf command ≤ length file
+
+-- a command that breaks no rule stands whole
+pub whole : (file : List ℕ) (at : ℕ) (s : State) (team : Team) → fault at s team (commandAt file at) ≡ 0 → Whole file at (commandAt file at)
+unfolding commandAt fault
+whole file at s team = ends (leb (length file) at)
+  where
+    byte : ℕ
+    byte = getD file at 0
+
+    command : Command
+    command = commandOf byte (getD file (at + 1) 0) (getD file (at + 2) 0) (getD file (at + 3) 0)
+
+    short : (b : Bool) → leb (at + widthOf byte) (length file) ≡ b → widthOf byte ≢ 0 → fault at s team (cond b command Short) ≡ 0 → Whole file at (cond b command Short)
+    short true t w e =
+        let same = length-command byte (getD file (at + 1) 0) (getD file (at + 2) 0) (getD file (at + 3) 0) w in
+        let room = leb-true (at + widthOf byte) (length file) t in
+        record { some = omega arith; fits = omega arith }
+    short false t w e = absurd (omega arith)
+
+    unknown : (b : Bool) → eqb (widthOf byte) 0 ≡ b → fault at s team (cond b Unknown (cond (leb (at + widthOf byte) (length file)) command Short)) ≡ 0
+        → Whole file at (cond b Unknown (cond (leb (at + widthOf byte) (length file)) command Short))
+    unknown true t e = absurd (omega arith)
+    unknown false t e = short (leb (at + widthOf byte) (length file)) refl (eqb-false (widthOf byte) 0 t) e
+
+    ends : (b : Bool) → fault at s team (cond b Missing (cond (eqb (widthOf byte) 0) Unknown (cond (leb (at + widthOf byte) (length file)) command Short))) ≡ 0
+        → Whole file at (cond b Missing (cond (eqb (widthOf byte) 0) Unknown (cond (leb (at + widthOf byte) (length file)) command Short)))
+    ends true e = absurd (omega arith)
+    ends false e = unknown (eqb (widthOf byte) 0) refl e
+
+-- the command at an offset, and the rule that it breaks
+abbrev pub number : List ℕ → ℕ → State → List Team → ℕ
+number file at s teams = fault at s (openTeam teams (s .n)) (commandAt file at)
+
+-- where a command that breaks no rule leads
+abbrev pub next : (List ℕ → ℕ → State → List Team → Type 0) → List ℕ → ℕ → State → List Team → Type 0
+next P file at s teams =
+    let command = commandAt file at in
+    let s′ = changedState s command in
+    P file (at + lengthOf command) s′ (changedTeams teams (s′ .n) (changedTeam (openTeam teams (s .n)) command))
+
+module _ (fuel : ℕ) (file : List ℕ) (at : ℕ) (s : State) (teams : List Team) where
+  -- the three ways of a command
+  pub step-refused : number file at s teams ≢ 0 → readFrom (suc fuel) file at s teams ≡ refused (number file at s teams) at
+  unfolding readFrom
+  step-refused d = rw (ne-eqb (number file at s teams) 0 d, readFrom) refl
+
+  pub step-end : number file at s teams ≡ 0 → isEnd (commandAt file at) ≡ true → readFrom (suc fuel) file at s teams ≡ finished file at s teams
+  unfolding readFrom
+  step-end z e = rw (eq-eqb (number file at s teams) 0 z, e, readFrom) refl
+
+  pub step-next : number file at s teams ≡ 0 → isEnd (commandAt file at) ≡ false → next (λ file′ at′ s′ teams′. readFrom (suc fuel) file at s teams ≡ readFrom fuel file′ at′ s′ teams′) file at s teams
+  unfolding readFrom
+  step-next z e = rw (eq-eqb (number file at s teams) 0 z, e, readFrom) refl
+
+-- the two ways of the first byte
+pub plan-start : (file : List ℕ) → getD file 0 0 ≡ 1 → readPlan file ≡ readFrom (suc (length file)) file 0 start (replicate 12 blankTeam)
+unfolding readPlan
+plan-start file e = rw (eq-eqb (getD file 0 0) 1 e, readPlan) refl
+
+pub plan-none : (file : List ℕ) → getD file 0 0 ≢ 1 → readPlan file ≡ refused 1 0
+unfolding readPlan
+plan-none file d = rw (ne-eqb (getD file 0 0) 1 d, readPlan) refl

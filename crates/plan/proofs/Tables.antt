@@ -1,0 +1,176 @@
+-- What the tables of a team can hold, and how many entries a command adds.
+use Prim.Native.Nat.{ℕ, zero, suc, _+_, _-_, _*_, _≤_, _<_}
+use mathlib.Core.Path.{_≡_, refl, sym, ap, _∙_, subst}
+use mathlib.Core.Bool.{Bool, true, false, not, cond, false≢true}
+use mathlib.Core.Logic.{_⊎_, inl, inr, _≢_}
+use mathlib.Core.List.{List}
+use native.Mathlib.Omega.{arith}
+use native.Mathlib.Decide.{decLt, ℕ-discrete}
+use lib.Dec.{eqb, leb, ltb}
+use lib.ListN.{length, getD, set, replicate, length-set, length-replicate, getD-replicate, List·getD-eq-default}
+use lib.Seq.{getD-set-same, getD-set-other}
+use borrow.Author.Tests.{ne-eqb, lt-ltb, ltb-true, ltb-false, leb-false, eqb-true, eqb-false, not-true, not-false}
+use Rattle.matroid.specs.Set.{Set, one, size, size-change, size-le}
+use Rattle.plan.specs.declared.Command.{Command}
+use Rattle.plan.specs.declared.Command.the-variants.{Missing, Unknown, Short, Start, Caps, Loops, Class, Put, Span, End}
+use Rattle.plan.specs.declared.State.{State}
+use Rattle.plan.specs.declared.Team.{Team}
+use Rattle.plan.specs.Command.{capsKind, loopsKind, lengthOf}
+use Rattle.plan.specs.Fault.{Rule, rule, firstBroken, named, fault}
+use Rattle.plan.specs.Carry.{opened, blankTeam, start, openTeam, changedTeam, changedState}
+use Rattle.plan.specs.Read.{changedTeams}
+use Rattle.plan.specs.Valid.{ValidTeam}
+
+-- ---- what is known where no rule is broken
+
+-- the first rule holds, and so do the others
+pub first-holds : (b : Bool) (k rest : ℕ) → k ≢ 0 → _≡_ {A = ℕ} (cond b k rest) 0 → (b ≡ false) × (rest ≡ 0)
+first-holds true k rest d e = absurd (d e)
+first-holds false k rest d e = (refl, e)
+
+-- ---- a table with one entry more
+
+-- a table of numbers that has a value at i where it had none
+module _ (w : ℕ) (A B : Set) (i : ℕ) (l : i < w) where
+  one-more : ((k : ℕ) → k ≢ i → A k ≡ B k) → A i ≡ true → B i ≡ false → size w A ≡ size w B + 1
+  one-more other here before =
+      let change = size-change w A B i l other in
+      let a = ap one here in
+      let b = ap one before in
+      omega arith
+
+-- how many instruments a table names
+pub namedCount : List ℕ → ℕ
+namedCount table = size 64 (named table)
+
+pub namedCount-le : (table : List ℕ) → namedCount table ≤ 64
+unfolding namedCount
+namedCount-le table = size-le 64 (named table)
+
+pub namedCount-none : namedCount (replicate 64 255) ≡ 0
+unfolding namedCount
+namedCount-none = refl
+
+-- a table in which an instrument is named that was not
+module _ (table : List ℕ) (i v : ℕ) (long : length table ≡ 64) (l : i < 64) (small : v < 255) where
+  pub named-here : named (set table i v) i ≡ true
+  named-here = ap (λ (x : ℕ). not (eqb x 255)) (getD-set-same table i v 255 (omega arith)) ∙ ap not (ne-eqb v 255 (omega arith))
+
+  pub named-there : (k : ℕ) → k ≢ i → named (set table i v) k ≡ named table k
+  named-there k d = ap (λ (x : ℕ). not (eqb x 255)) (getD-set-other table i k v 255 d)
+
+  pub namedCount-more : named table i ≡ false → namedCount (set table i v) ≡ namedCount table + 1
+  unfolding namedCount
+  namedCount-more e = one-more 64 (named (set table i v)) (named table) i l named-there named-here e
+
+-- how many classes of the open team are capped
+pub cappedCount : List Bool → ℕ
+cappedCount capped = size 16 (λ c. getD capped c false)
+
+pub cappedCount-le : (capped : List Bool) → cappedCount capped ≤ 16
+unfolding cappedCount
+cappedCount-le capped = size-le 16 (λ c. getD capped c false)
+
+pub cappedCount-none : cappedCount (replicate 16 false) ≡ 0
+unfolding cappedCount
+cappedCount-none = refl
+
+pub cappedCount-more : (capped : List Bool) (c : ℕ) → length capped ≡ 16 → c < 16 → getD capped c false ≡ false → cappedCount (set capped c true) ≡ cappedCount capped + 1
+unfolding cappedCount
+cappedCount-more capped c long l e =
+    one-more 16 (λ k. getD (set capped c true) k false) (λ k. getD capped k false) c l
+    (λ k d. getD-set-other capped c k true false d) (getD-set-same capped c true false (omega arith)) e
+
+-- ---- one team
+
+-- nothing is named in a table that has just been made
+pub blank-entry : (i : ℕ) → _≡_ {A = ℕ} (getD (replicate 64 255) i 255) 255
+blank-entry i = elim (decLt i 64) [ yes l ↦ getD-replicate 64 i 255 255 l | no d ↦ List·getD-eq-default (replicate 64 255) 255 {n = i} (omega arith) ]
+
+pub named-none : (i : ℕ) → named (replicate 64 255) i ≡ false
+named-none i = ap (λ (x : ℕ). not (eqb x 255)) (blank-entry i)
+
+pub never : {b : Bool} → b ≡ false → b ≡ true → ⊥
+never f t = false≢true (sym f ∙ t)
+
+-- a team that has just been opened
+pub opened-kept : (m kind channels : ℕ) → (kind ≡ capsKind) ⊎ (kind ≡ loopsKind) → ValidTeam m (opened kind channels)
+opened-kept m kind channels k = record {
+  cap-long = refl;
+  class-long = refl;
+  first-long = refl;
+  second-long = refl;
+  kind = k;
+  put-below = λ i e. absurd (never (named-none i) e);
+  span-below = λ i e. absurd (never (named-none i) e);
+  span-both = λ i _. blank-entry i;
+}
+
+module _ (m : ℕ) (team : Team) (kept : ValidTeam m team) (small : m ≤ 64) where
+  -- a class is capped
+  pub class-kept : (class cap : ℕ) → ValidTeam m (changedTeam team (Class class cap))
+  unfolding changedTeam
+  class-kept class most = record {
+    cap-long = length-set (team .cap) class most ∙ kept .cap-long;
+    class-long = kept .class-long;
+    first-long = kept .first-long;
+    second-long = kept .second-long;
+    kind = kept .kind;
+    put-below = kept .put-below;
+    span-below = kept .span-below;
+    span-both = kept .span-both;
+  }
+
+  -- an instrument is put in a class
+  pub put-kept : (i class : ℕ) → i < m → class < 16 → ValidTeam m (changedTeam team (Put i class))
+  unfolding changedTeam
+  put-kept i class l c = record {
+    cap-long = kept .cap-long;
+    class-long = length-set (team .class) i class ∙ kept .class-long;
+    first-long = kept .first-long;
+    second-long = kept .second-long;
+    kind = kept .kind;
+    put-below = λ k e. go k e (ℕ-discrete k i);
+    span-below = kept .span-below;
+    span-both = kept .span-both;
+  }
+    where
+      long : length (team .class) ≡ 64
+      long = kept .class-long
+
+      go : (k : ℕ) → named (set (team .class) i class) k ≡ true → Dec (k ≡ i) → (k < m) × (getD (set (team .class) i class) k 255 < 16)
+      go k e (yes same) = (omega arith, rw (same, getD-set-same (team .class) i class 255 (omega arith)) c)
+      go k e (no other) = rw (getD-set-other (team .class) i k class 255 other) (kept .put-below k (sym (named-there (team .class) i class long (omega arith) (omega arith) k other) ∙ e))
+
+  -- an instrument is given a span
+  pub span-kept : (i a b : ℕ) → i < m → a < 64 → b < 64 → a ≢ b → ValidTeam m (changedTeam team (Span i a b))
+  unfolding changedTeam
+  span-kept i a b l la lb d = record {
+    cap-long = kept .cap-long;
+    class-long = kept .class-long;
+    first-long = length-set (team .first) i a ∙ kept .first-long;
+    second-long = length-set (team .second) i b ∙ kept .second-long;
+    kind = kept .kind;
+    put-below = kept .put-below;
+    span-below = λ k e. below k e (ℕ-discrete k i);
+    span-both = λ k e. both k e (ℕ-discrete k i);
+  }
+    where
+      long : length (team .first) ≡ 64
+      long = kept .first-long
+
+      long′ : length (team .second) ≡ 64
+      long′ = kept .second-long
+
+      there : (k : ℕ) → k ≢ i → named (set (team .first) i a) k ≡ named (team .first) k
+      there = named-there (team .first) i a long (omega arith) (omega arith)
+
+      below : (k : ℕ) → named (set (team .first) i a) k ≡ true → Dec (k ≡ i)
+          → (k < m) × (getD (set (team .first) i a) k 255 < 64) × (getD (set (team .second) i b) k 255 < 64) × (getD (set (team .first) i a) k 255 ≢ getD (set (team .second) i b) k 255)
+      below k e (yes same) = (omega arith, rw (same, getD-set-same (team .first) i a 255 (omega arith)) la, rw (same, getD-set-same (team .second) i b 255 (omega arith)) lb,
+        rw (same, getD-set-same (team .first) i a 255 (omega arith), getD-set-same (team .second) i b 255 (omega arith)) d)
+      below k e (no other) = rw (getD-set-other (team .first) i k a 255 other, getD-set-other (team .second) i k b 255 other) (kept .span-below k (sym (there k other) ∙ e))
+
+      both : (k : ℕ) → named (set (team .first) i a) k ≡ false → Dec (k ≡ i) → getD (set (team .second) i b) k 255 ≡ 255
+      both k e (yes same) = absurd (never (rw same at e) (named-here (team .first) i a long (omega arith) (omega arith)))
+      both k e (no other) = getD-set-other (team .second) i k b 255 other ∙ kept .span-both k (sym (there k other) ∙ e)
