@@ -7,10 +7,10 @@ use mathlib.Core.Logic.{_≢_}
 use mathlib.Core.List.{List}
 use native.Mathlib.Omega.{arith}
 use native.Mathlib.Decide.{decLe, ℕ-discrete}
-use lib.Dec.{eqb, leb, ltb}
+use lib.Dec.{eqb, ltb}
 use lib.ListN.{length, getD, take, replicate, length-take}
 use lib.Seq.{take-all, getD-take}
-use borrow.Author.Tests.{ltb-false, ltb-true, eqb-true, eqb-false, eq-eqb, ne-eqb, lt-leb, le-leb, lt-ltb}
+use borrow.Author.Tests.{ltb-false, eqb-false, lt-leb, le-leb, lt-ltb}
 use Rattle.plan.specs.declared.Command.{Command}
 use Rattle.plan.specs.declared.Command.the-variants.{Missing, Unknown, Short, Start, Caps, Loops, Class, Put, Span, End}
 use Rattle.plan.specs.declared.Reading.{Reading}
@@ -32,14 +32,14 @@ module _ (file : List ℕ) (P : Reading → Type 0)
   from zero at s teams k inside enough = absurd (omega arith)
   from (suc fuel) at s teams k inside enough = go (λ z. whole file at s (openTeam teams (s .n)) z) (ℕ-discrete (number file at s teams) 0) (isEnd (commandAt file at)) refl
       (λ (z : number file at s teams ≡ 0) (e : isEnd (commandAt file at) ≡ false) (w : Whole file at (commandAt file at)).
-          let command = commandAt file at in
-          let some = w .some in
-          from fuel (at + lengthOf command) (changedState s command) (changedTeams teams (changedState s command .n) (changedTeam (openTeam teams (s .n)) command))
-          (kept-next at s teams command k z e) (w .fits) (omega arith))
+      let command = commandAt file at in
+      let some = w .some in
+      from fuel (at + lengthOf command) (changedState s command) (changedTeams teams (changedState s command .n) (changedTeam (openTeam teams (s .n)) command))
+      (kept-next at s teams command k z e) (w .fits) (omega arith))
     where
       go : (number file at s teams ≡ 0 → Whole file at (commandAt file at)) → Dec (number file at s teams ≡ 0) → (b : Bool) → isEnd (commandAt file at) ≡ b
           → (number file at s teams ≡ 0 → isEnd (commandAt file at) ≡ false → Whole file at (commandAt file at)
-            → P (readFrom fuel file (at + lengthOf (commandAt file at)) (changedState s (commandAt file at)) (changedTeams teams (changedState s (commandAt file at) .n) (changedTeam (openTeam teams (s .n)) (commandAt file at)))))
+          → P (readFrom fuel file (at + lengthOf (commandAt file at)) (changedState s (commandAt file at)) (changedTeams teams (changedState s (commandAt file at) .n) (changedTeam (openTeam teams (s .n)) (commandAt file at)))))
           → P (readFrom (suc fuel) file at s teams)
       go stands (no d) b e rest = rw (step-refused fuel file at s teams d) (at-fault at s teams k inside d)
       go stands (yes z) true e rest = rw (step-end fuel file at s teams z e) (at-end at s teams k (stands z .fits) z e)
@@ -162,17 +162,17 @@ module _ (file : List ℕ) (w : ℕ) (enough : 3104 ≤ w) (long : w ≤ length 
   same-from (suc fuel) (suc fuel′) at s teams k inside a b =
       go (ℕ-discrete (number file at s teams) 0) (isEnd (commandAt file at)) refl
       (λ (z : number file at s teams ≡ 0) (e : isEnd (commandAt file at) ≡ false) (some : 0 < lengthOf (commandAt file at)) (fits : at + lengthOf (commandAt file at) ≤ w).
-          let command = commandAt file at in
-          same-from fuel fuel′ (at + lengthOf command) (changedState s command) (changedTeams teams (changedState s command .n) (changedTeam (openTeam teams (s .n)) command))
-          (kept-next at s teams command k z e) fits (omega arith) (omega arith))
+      let command = commandAt file at in
+      same-from fuel fuel′ (at + lengthOf command) (changedState s command) (changedTeams teams (changedState s command .n) (changedTeam (openTeam teams (s .n)) command))
+      (kept-next at s teams command k z e) fits (omega arith) (omega arith))
     where
       l : at ≤ 3099
       l = kept-at k
 
       go : Dec (number file at s teams ≡ 0) → (b : Bool) → isEnd (commandAt file at) ≡ b
           → (number file at s teams ≡ 0 → isEnd (commandAt file at) ≡ false → 0 < lengthOf (commandAt file at) → at + lengthOf (commandAt file at) ≤ w
-            → readFrom fuel window (at + lengthOf (commandAt file at)) (changedState s (commandAt file at)) (changedTeams teams (changedState s (commandAt file at) .n) (changedTeam (openTeam teams (s .n)) (commandAt file at)))
-            ≡ readFrom fuel′ file (at + lengthOf (commandAt file at)) (changedState s (commandAt file at)) (changedTeams teams (changedState s (commandAt file at) .n) (changedTeam (openTeam teams (s .n)) (commandAt file at))))
+          → readFrom fuel window (at + lengthOf (commandAt file at)) (changedState s (commandAt file at)) (changedTeams teams (changedState s (commandAt file at) .n) (changedTeam (openTeam teams (s .n)) (commandAt file at)))
+          ≡ readFrom fuel′ file (at + lengthOf (commandAt file at)) (changedState s (commandAt file at)) (changedTeams teams (changedState s (commandAt file at) .n) (changedTeam (openTeam teams (s .n)) (commandAt file at))))
           → readFrom (suc fuel) window at s teams ≡ readFrom (suc fuel′) file at s teams
       go (no d) b e rest =
           step-refused fuel window at s teams (λ z. d (sym (same-number at s teams l) ∙ z))

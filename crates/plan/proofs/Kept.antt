@@ -1,22 +1,21 @@
 -- What holds all through the reading of a plan, and how far a file can be read.
-use Prim.Native.Nat.{ℕ, zero, suc, _+_, _-_, _*_, _≤_, _<_}
-use mathlib.Core.Path.{_≡_, refl, sym, ap, _∙_, subst}
-use mathlib.Core.Bool.{Bool, true, false, not, cond, false≢true, true≢false}
+use Prim.Native.Nat.{ℕ, _+_, _-_, _*_, _≤_, _<_}
+use mathlib.Core.Path.{_≡_, refl, ap, _∙_}
+use mathlib.Core.Bool.{Bool, true, false, not, cond, true≢false}
 use mathlib.Core.Logic.{_⊎_, inl, inr, _≢_}
 use mathlib.Core.List.{List}
 use native.Mathlib.Omega.{arith}
 use native.Mathlib.Decide.{decLt, ℕ-discrete}
 use lib.Dec.{eqb, leb, ltb}
-use lib.ListN.{length, getD, set, replicate, length-set, length-replicate, getD-replicate, List·getD-eq-default}
+use lib.ListN.{length, getD, set, replicate, length-set}
 use lib.Seq.{getD-set-same, getD-set-other}
-use borrow.Author.Tests.{ne-eqb, lt-ltb, ltb-true, ltb-false, leb-false, eqb-true, eqb-false, not-true, not-false, le-ltb}
-use Rattle.matroid.specs.Set.{Set, one, size, size-change, size-le}
+use borrow.Author.Tests.{ne-eqb, lt-ltb, ltb-true, ltb-false, leb-false, eqb-true, eqb-false, not-false, le-ltb}
 use Rattle.plan.specs.declared.Command.{Command}
 use Rattle.plan.specs.declared.Command.the-variants.{Missing, Unknown, Short, Start, Caps, Loops, Class, Put, Span, End}
 use Rattle.plan.specs.declared.State.{State}
 use Rattle.plan.specs.declared.Team.{Team}
 use Rattle.plan.specs.Command.{capsKind, loopsKind, lengthOf}
-use Rattle.plan.specs.Fault.{Rule, rule, firstBroken, named, fault, isEnd}
+use Rattle.plan.specs.Fault.{named, fault, isEnd}
 use Rattle.plan.specs.Carry.{opened, blankTeam, start, openTeam, changedTeam, changedState}
 use Rattle.plan.specs.Read.{changedTeams}
 use Rattle.plan.specs.Valid.{ValidTeam}

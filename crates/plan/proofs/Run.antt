@@ -5,20 +5,19 @@ use mathlib.Core.Bool.{Bool, true, false, cond}
 use mathlib.Core.Logic.{_≢_}
 use mathlib.Core.List.{List}
 use native.Mathlib.Omega.{arith}
-use native.Mathlib.Decide.{decLt, decLe, ℕ-discrete}
-use lib.Dec.{eqb, leb, ltb}
+use lib.Dec.{leb}
 use lib.ListN.{length, getD, set, replicate}
-use borrow.Author.Tests.{eq-eqb, ne-eqb, le-leb, lt-leb, leb-true, leb-false, eqb-true, eqb-false, lt-ltb, le-ltb}
+use borrow.Author.Tests.{leb-false, lt-ltb, le-ltb}
 use Rattle.plan.specs.declared.Command.{Command}
 use Rattle.plan.specs.declared.Command.the-variants.{Missing, Unknown, Short, Start, Caps, Loops, Class, Put, Span, End}
 use Rattle.plan.specs.declared.Reading.{Reading}
 use Rattle.plan.specs.declared.State.{State}
 use Rattle.plan.specs.declared.Team.{Team}
-use Rattle.plan.specs.Command.{widthOf, commandOf, commandAt, lengthOf}
+use Rattle.plan.specs.Command.{commandAt, lengthOf}
 use Rattle.plan.specs.Fault.{fault, isEnd}
 use Rattle.plan.specs.Carry.{blankTeam, start, openTeam, changedTeam, changedState}
 use Rattle.plan.specs.Read.{refused, finished, changedTeams, readFrom, readPlan}
-use Rattle.plan.proofs.Steps.{Whole, whole, number, next, step-refused, step-end, step-next, plan-start}
+use Rattle.plan.proofs.Steps.{whole, number, next, step-refused, step-end, step-next, plan-start}
 
 -- a thirteenth team is refused
 room : (n : ℕ) (b : Bool) → leb 12 n ≡ b → _≡_ {A = ℕ} (cond b 7 0) 0 → n + 1 ≤ 12

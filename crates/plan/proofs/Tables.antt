@@ -1,24 +1,21 @@
 -- What the tables of a team can hold, and how many entries a command adds.
-use Prim.Native.Nat.{ℕ, zero, suc, _+_, _-_, _*_, _≤_, _<_}
-use mathlib.Core.Path.{_≡_, refl, sym, ap, _∙_, subst}
+use Prim.Native.Nat.{ℕ, _+_, _≤_, _<_}
+use mathlib.Core.Path.{_≡_, refl, sym, ap, _∙_}
 use mathlib.Core.Bool.{Bool, true, false, not, cond, false≢true}
-use mathlib.Core.Logic.{_⊎_, inl, inr, _≢_}
+use mathlib.Core.Logic.{_⊎_, _≢_}
 use mathlib.Core.List.{List}
 use native.Mathlib.Omega.{arith}
 use native.Mathlib.Decide.{decLt, ℕ-discrete}
-use lib.Dec.{eqb, leb, ltb}
-use lib.ListN.{length, getD, set, replicate, length-set, length-replicate, getD-replicate, List·getD-eq-default}
+use lib.Dec.{eqb}
+use lib.ListN.{length, getD, set, replicate, length-set, getD-replicate, List·getD-eq-default}
 use lib.Seq.{getD-set-same, getD-set-other}
-use borrow.Author.Tests.{ne-eqb, lt-ltb, ltb-true, ltb-false, leb-false, eqb-true, eqb-false, not-true, not-false}
+use borrow.Author.Tests.{ne-eqb}
 use Rattle.matroid.specs.Set.{Set, one, size, size-change, size-le}
-use Rattle.plan.specs.declared.Command.{Command}
-use Rattle.plan.specs.declared.Command.the-variants.{Missing, Unknown, Short, Start, Caps, Loops, Class, Put, Span, End}
-use Rattle.plan.specs.declared.State.{State}
+use Rattle.plan.specs.declared.Command.the-variants.{Class, Put, Span}
 use Rattle.plan.specs.declared.Team.{Team}
-use Rattle.plan.specs.Command.{capsKind, loopsKind, lengthOf}
-use Rattle.plan.specs.Fault.{Rule, rule, firstBroken, named, fault}
-use Rattle.plan.specs.Carry.{opened, blankTeam, start, openTeam, changedTeam, changedState}
-use Rattle.plan.specs.Read.{changedTeams}
+use Rattle.plan.specs.Command.{capsKind, loopsKind}
+use Rattle.plan.specs.Fault.{named}
+use Rattle.plan.specs.Carry.{opened, changedTeam}
 use Rattle.plan.specs.Valid.{ValidTeam}
 
 -- ---- what is known where no rule is broken
@@ -167,8 +164,12 @@ module _ (m : ℕ) (team : Team) (kept : ValidTeam m team) (small : m ≤ 64) wh
 
       below : (k : ℕ) → named (set (team .first) i a) k ≡ true → Dec (k ≡ i)
           → (k < m) × (getD (set (team .first) i a) k 255 < 64) × (getD (set (team .second) i b) k 255 < 64) × (getD (set (team .first) i a) k 255 ≢ getD (set (team .second) i b) k 255)
-      below k e (yes same) = (omega arith, rw (same, getD-set-same (team .first) i a 255 (omega arith)) la, rw (same, getD-set-same (team .second) i b 255 (omega arith)) lb,
-        rw (same, getD-set-same (team .first) i a 255 (omega arith), getD-set-same (team .second) i b 255 (omega arith)) d)
+      below k e (yes same) = (
+        omega arith,
+        rw (same, getD-set-same (team .first) i a 255 (omega arith)) la,
+        rw (same, getD-set-same (team .second) i b 255 (omega arith)) lb,
+        rw (same, getD-set-same (team .first) i a 255 (omega arith), getD-set-same (team .second) i b 255 (omega arith)) d,
+      )
       below k e (no other) = rw (getD-set-other (team .first) i k a 255 other, getD-set-other (team .second) i k b 255 other) (kept .span-below k (sym (there k other) ∙ e))
 
       both : (k : ℕ) → named (set (team .first) i a) k ≡ false → Dec (k ≡ i) → getD (set (team .second) i b) k 255 ≡ 255

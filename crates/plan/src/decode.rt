@@ -17,11 +17,7 @@ const WIDTHS: [usize; 8] = [0, 3, 2, 2, 3, 3, 4, 1];
 fn width_of(byte: u8) -> usize
     ensures { λ r. ⌜ r ≡ widthOf byte ⌝ }
 {
-    if byte < 8 {
-        WIDTHS[byte as usize]
-    } else {
-        0
-    }
+    if byte < 8 { WIDTHS[byte as usize] } else { 0 }
 }
 
 // The command of a byte with these operands.

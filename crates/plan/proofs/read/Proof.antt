@@ -1,30 +1,14 @@
 -- `read` meets its contract. The invariant: the answer is what reading from here on comes to.
 use Prim.Native.Nat.{_-_}
-use mathlib.Core.Path.{_≡_, sym, ap, _∙_}
+use mathlib.Core.Path.{sym, _∙_}
 use mathlib.Core.Logic.{⊎-elim}
 use native.Mathlib.Omega.{arith}
-use lib.ListN.{length, replicate}
-use Rattle.plan.specs.declared.State.{State}
-use Rattle.plan.specs.declared.Team.{Team}
+use lib.ListN.{length}
 use Rattle.plan.proofs.Steps.{plan-none}
 use Rattle.plan.proofs.Run.{Run, run-start, refuses, ends, goes-on, comes-nearer, stays-inside, stays-few, stores, keeps}
 use borrow.Author.Needs.{needs}
 use Rattle.plan.proofs.read.Statement.{statement}
 use Rattle.plan.proofs.read.Tie as tie
-use Rattle.plan.proofs.read.Reads as reads
-use Rattle.plan.proofs.read.Lts as lts
-use Rattle.plan.proofs.carry.blank.Reads as blank-reads
-use Rattle.plan.proofs.carry.changed_state.Reads as changed-state-reads
-use Rattle.plan.proofs.carry.changed_team.Reads as changed-team-reads
-use Rattle.plan.proofs.carry.nothing.Reads as nothing-reads
-use Rattle.plan.proofs.carry.open_team.Reads as open-team-reads
-use Rattle.plan.proofs.decode.byte_at.Reads as byte-at-reads
-use Rattle.plan.proofs.decode.command_at.Reads as command-at-reads
-use Rattle.plan.proofs.decode.width.Reads as width-reads
-use Rattle.plan.proofs.finish.Reads as finish-reads
-use Rattle.plan.proofs.judge.fault_of.Reads as fault-of-reads
-use Rattle.plan.proofs.judge.is_end.Reads as is-end-reads
-use Rattle.plan.proofs.refuse.Reads as refuse-reads
 
 abbrev Inv-loop : tie.InvT-loop
 Inv-loop file at₀ s₀ teams₀ at s teams = Run file at s teams
@@ -100,7 +84,7 @@ loop-less c = comes-nearer _ _ _ _ (c .before .before .before .before .before .b
 
 loop-again : tie.Need-loop-again Inv-loop μ-loop
 loop-again c = goes-on _ _ _ _ (c .before .before .before .before .before .before .before .before .before .before .loop .inv) _ _ _ (c .before .before .before .before .before .before .before .before .before .command-at .ensures) (c .before .before .before .before .before .before .before .before .open-team .ensures) (c .before .before .before .before .before .before .before .fault-of .ensures) _ _ _ _ _ (c .before .before .before .before .before .before .if2 .left) (c .before .before .before .before .before .is-end .ensures) (c .before .before .before .before .if3 .left) (c .before .before .changed-state .ensures) (c .before .before .before .changed-team .ensures) (c .width .ensures)
-        (⊎-elim (λ w. stores (c .before .before .before .before .before .before .before .before .before .before .loop .teams) _ _ (c .before .before .before .changed-team .result) (w .0 .taken) (w .1)) (λ w. keeps (c .before .before .before .before .before .before .before .before .before .before .loop .teams) _ _ (c .before .before .before .changed-team .result) (w .0 .left) (w .1)) (c .before .if4 .came))
+    (⊎-elim (λ w. stores (c .before .before .before .before .before .before .before .before .before .before .loop .teams) _ _ (c .before .before .before .changed-team .result) (w .0 .taken) (w .1)) (λ w. keeps (c .before .before .before .before .before .before .before .before .before .before .loop .teams) _ _ (c .before .before .before .changed-team .result) (w .0 .left) (w .1)) (c .before .if4 .came))
 
 pub read-spec : {M : Type 1} → statement M
 read-spec =

@@ -1,8 +1,4 @@
-use mathlib.Core.Path.{_≡_, refl, ap, sym, _∙_}
-use lib.ListN.{length}
-use lib.Seq.{set-out}
-use native.Mathlib.Omega.{arith}
-use Rattle.plan.proofs.Tests.{decided}
+use mathlib.Core.Path.{refl}
 use Rattle.plan.specs.Carry.{changedState}
 use borrow.Author.Needs.{needs}
 use Rattle.plan.proofs.carry.next_team.Statement.{statement}

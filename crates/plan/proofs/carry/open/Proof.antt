@@ -1,6 +1,5 @@
-use mathlib.Core.Path.{_≡_, ap}
+use mathlib.Core.Path.{ap}
 use Rattle.plan.specs.declared.Team.{Team}
-use Rattle.plan.proofs.Tests.{decided}
 use borrow.Author.Needs.{needs}
 use Rattle.plan.proofs.carry.open.Statement.{statement}
 use Rattle.plan.proofs.carry.open.Tie as tie

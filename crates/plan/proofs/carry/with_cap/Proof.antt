@@ -1,9 +1,8 @@
 use Prim.Native.Nat.{_≤_}
-use mathlib.Core.Path.{_≡_, refl, ap, sym, _∙_}
+use mathlib.Core.Path.{_≡_, refl}
 use lib.ListN.{length}
 use lib.Seq.{set-out}
 use native.Mathlib.Omega.{arith}
-use Rattle.plan.proofs.Tests.{decided}
 use Rattle.plan.specs.Carry.{changedTeam}
 use borrow.Author.Needs.{needs}
 use Rattle.plan.proofs.carry.with_cap.Statement.{statement}

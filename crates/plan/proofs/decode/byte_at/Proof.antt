@@ -1,7 +1,5 @@
-use mathlib.Core.Path.{_≡_, refl, sym}
-use mathlib.Core.List.{[], _∷_}
+use mathlib.Core.Path.{refl}
 use lib.ListN.{List·getD-eq-default}
-use Rattle.plan.proofs.Tests.{decided}
 use borrow.Author.Needs.{needs}
 use Rattle.plan.proofs.decode.byte_at.Statement.{statement}
 use Rattle.plan.proofs.decode.byte_at.Tie as tie

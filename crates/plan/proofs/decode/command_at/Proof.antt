@@ -21,7 +21,7 @@ width-of-requires c κs = search needs
 
 returns-2 : tie.Need-returns-2
 unfolding commandAt
-returns-2 c = 
+returns-2 c =
     let h1 = c .before .before .before .if1 .left in
     let h2 : widthOf (getD (now (c .before .before .before .before .before .args .file)) (c .before .before .before .before .before .args .at) 0) ≡ 0 = sym (c .before .width-of .ensures) ∙ c .if2 .taken in
     simp (decided, h1, h2)
@@ -31,7 +31,7 @@ sub-if3 c = search needs
 
 returns-3 : tie.Need-returns-3
 unfolding commandAt
-returns-3 c = 
+returns-3 c =
     let w = widthOf (getD (now (c .before .before .before .before .before .before .args .file)) (c .before .before .before .before .before .before .args .at) 0) in
     let h1 = c .before .before .before .before .if1 .left in
     let same : c .before .before .width-of .result ≡ w = c .before .before .width-of .ensures in
@@ -62,7 +62,7 @@ command-of-requires c κs = search needs
 
 returns-4 : tie.Need-returns-4
 unfolding commandAt
-returns-4 c = 
+returns-4 c =
     let w = widthOf (getD (now (c .before .before .before .before .before .before .before .before .before .before .args .file)) (c .before .before .before .before .before .before .before .before .before .before .args .at) 0) in
     let h1 = c .before .before .before .before .before .before .before .before .if1 .left in
     let same : c .before .before .before .before .before .before .width-of .result ≡ w = c .before .before .before .before .before .before .width-of .ensures in

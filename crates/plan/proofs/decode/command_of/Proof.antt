@@ -1,5 +1,4 @@
 use borrow.Author.Tests.{ne-eqb}
-use Rattle.plan.proofs.Tests.{decided}
 use Rattle.plan.proofs.decode.command_of.Statement.{statement}
 use Rattle.plan.proofs.decode.command_of.Tie as tie
 

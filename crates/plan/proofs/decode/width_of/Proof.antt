@@ -1,7 +1,6 @@
-use mathlib.Core.Path.{_≡_, refl, sym}
+use mathlib.Core.Path.{refl, sym}
 use mathlib.Core.List.{[], _∷_}
 use lib.ListN.{List·getD-eq-default}
-use Rattle.plan.proofs.Tests.{decided}
 use borrow.Author.Needs.{needs}
 use Rattle.plan.proofs.decode.width_of.Statement.{statement}
 use Rattle.plan.proofs.decode.width_of.Tie as tie
