@@ -212,3 +212,7 @@ module _ (file : List ℕ) (w : ℕ) (enough : 3104 ≤ w) (long : w ≤ length 
 pub first-bytes : (file : List ℕ) → readPlan (take 4096 file) ≡ readPlan file
 unfolding window
 first-bytes file = elim (decLe 4096 (length file)) [ yes l ↦ same-reading file 4096 (omega arith) l | no d ↦ ap readPlan (take-all 4096 file (omega arith)) ]
+
+-- the same of an answer of `read`
+pub valid-reading : (file : List ℕ) (r : Reading) → r ≡ readPlan file → r .refusal ≡ 0 → Valid r
+valid-reading file r e z = rw e (bounded file .valid (rw e at z))

@@ -1,0 +1,101 @@
+// The verb `read HEX`: what reading a plan comes to.
+use crate::print;
+use plan::Reading;
+use plan::Team;
+
+// `class=cap`, where the cap is not 0.
+fn cap(class: usize, cap: u8) {
+    if cap != 0 {
+        print::marked(b" ", class);
+        print::marked(b"=", cap as usize);
+    }
+}
+
+// `instrument:class`, where the instrument is in a class.
+fn put(instrument: usize, class: u8) {
+    if class != 255 {
+        print::marked(b" ", instrument);
+        print::marked(b":", class as usize);
+    }
+}
+
+// `instrument:joint-joint`, where the instrument has a joint.
+fn span(instrument: usize, first: u8, second: u8) {
+    if first != 255 || second != 255 {
+        print::marked(b" ", instrument);
+        print::marked(b":", first as usize);
+        print::marked(b"-", second as usize);
+    }
+}
+
+// The caps, by class.
+fn caps(table: [u8; 16]) {
+    for k in 0..16usize {
+        cap(k, table[k]);
+    }
+}
+
+// The classes, by instrument.
+fn puts(table: [u8; 64]) {
+    for i in 0..64usize {
+        put(i, table[i]);
+    }
+}
+
+// The joints, by instrument.
+fn spans(first: [u8; 64], second: [u8; 64]) {
+    for i in 0..64usize {
+        span(i, first[i], second[i]);
+    }
+}
+
+// A team's kind, by the byte that opens the team.
+fn kind(byte: u8) {
+    match byte {
+        2 => print::text(b"; CAPS"),
+        3 => print::text(b"; LOOPS"),
+        _ => print::text(b"; NONE"),
+    }
+}
+
+// A team: its kind and channels, and all that its tables hold, whichever kind it is.
+fn team(t: Team) {
+    kind(t.kind);
+    print::marked(b" ", t.channels as usize);
+    let cap = t.cap;
+    let class = t.class;
+    let first = t.first;
+    let second = t.second;
+    caps(cap);
+    puts(class);
+    spans(first, second);
+}
+
+// The first n teams.
+fn teams(n: usize, table: [Team; 12]) {
+    for k in 0..12usize {
+        if k < n {
+            team(table[k]);
+        }
+    }
+}
+
+// `REFUSED number place`, or `m n` and then each team after a semicolon.
+fn show(r: Reading) {
+    if r.refusal != 0 {
+        print::marked(b"REFUSED ", r.refusal);
+        print::marked(b" ", r.place);
+        return;
+    }
+    print::number(r.m);
+    print::marked(b" ", r.n);
+    let table = r.teams;
+    teams(r.n, table);
+}
+
+// Answers the verb. Of the plan the first 4,096 bytes are read, and no plan of that length is accepted.
+pub fn answer(hex: &[u8]) {
+    let mut space = io::buffer();
+    let k = lines::decode(hex, &mut space);
+    show(plan::read(&space[..k]));
+}

@@ -1,0 +1,37 @@
+-- The members below m of a word, counted.
+use Prim.Native.Nat.{ℕ, zero, suc, _+_, _≤_, _<_}
+use mathlib.Core.Path.{_≡_, refl, sym, ap, _∙_, fun-ext}
+use mathlib.Core.Bool.{Bool, true, false, _&&_, and-false, and-true}
+use native.Mathlib.Omega.{arith}
+use native.Mathlib.Decide.{decLt}
+use lib.Dec.{T, ltb}
+use borrow.Author.Tests.{lt-ltb, le-ltb}
+use Rattle.matroid.specs.Set.{Set, _∩_, under, one, size}
+use Rattle.sets.specs.Bits.{bit}
+
+-- sets that agree below w have the same size there
+size-agree : (w : ℕ) (A B : Set) → ((k : ℕ) → k < w → A k ≡ B k) → size w A ≡ size w B
+size-agree zero A B h = refl
+size-agree (suc w) A B h =
+    let below = size-agree w A B (λ k l. h k (omega arith)) in
+    let here = ap one (h w (omega arith)) in
+    omega arith
+
+-- what lies below m is counted below m
+pub size-under : (w m : ℕ) (A : Set) → m ≤ w → size w (A ∩ under m) ≡ size m A
+size-under zero m A l = let z : m ≡ 0 = omega arith in rw z refl
+size-under (suc w) m A l = go (λ (h : m ≤ w). size-under w m A h) (decLt w m)
+  where
+    go : (m ≤ w → size w (A ∩ under m) ≡ size m A) → Dec (w < m) → size (suc w) (A ∩ under m) ≡ size m A
+    go rest (yes h) =
+        let e : m ≡ suc w = omega arith in
+        rw e (size-agree (suc w) (A ∩ under (suc w)) A (λ k b. rw (lt-ltb k (suc w) b) (and-true (A k))))
+    go rest (no h) =
+        let below = rest (omega arith) in
+        let out : one (A w && ltb w m) ≡ 0 = rw (le-ltb w m (omega arith), and-false (A w)) refl in
+        omega arith
+
+-- the count of the word of the members below m
+pub below-size : (m set all s r : ℕ) → m ≤ 64 → ((j : ℕ) → bit all j ≡ under m j) → ((j : ℕ) → bit s j ≡ (bit set ∩ bit all) j) → r ≡ size 64 (bit s) → r ≡ size m (bit set)
+below-size m set all s r l eall es er =
+    er ∙ ap (size 64) (fun-ext (λ j. es j ∙ ap (λ (b : Bool). bit set j && b) (eall j))) ∙ size-under 64 m (bit set) l

@@ -1,0 +1,25 @@
+use mathlib.Core.Path.{_≡_, refl, sym, _∙_, ap}
+use Rattle.matroid.specs.Matroid.{Matroid, worth}
+use Rattle.sets.specs.Bits.{bit}
+use Rattle.kinds.specs.Teams.{of-caps, of-loops, of-none, none-worth}
+use borrow.Author.Needs.{needs}
+use Rattle.kinds.proofs.worth_of.Statement.{statement}
+use Rattle.kinds.proofs.worth_of.Tie as tie
+
+worth-requires : tie.Need-worth-requires
+worth-requires c κs = search needs
+
+returns : tie.Need-returns
+returns c = rw (of-caps (c .before .before .args .m) (c .before .before .args .team) (c .before .if1 .taken)) (c .worth .ensures)
+
+worth-requires-2 : tie.Need-worth-requires-2
+worth-requires-2 c κs = search needs
+
+returns-2 : tie.Need-returns-2
+returns-2 c = rw (of-loops (c .before .before .before .args .m) (c .before .before .before .args .team) (c .before .if2 .taken)) (c .worth2 .ensures)
+
+returns-3 : tie.Need-returns-3
+returns-3 c = rw (of-none (c .before .before .args .m) (c .before .before .args .team) (c .before .if1 .left) (c .if2 .left)) (sym (none-worth (c .before .before .args .m) (bit (c .before .before .args .set))))
+
+pub worth-of-spec : {M : Type 1} → statement M
+worth-of-spec = tie.close (tie.spec worth-requires returns worth-requires-2 returns-2 returns-3)

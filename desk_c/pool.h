@@ -1,0 +1,70 @@
+/*
+ * The pool library: Build and Check on byte buffers.
+ *
+ * Contract of both functions
+ * - A length is a count of bytes. A null pointer is allowed where the length is 0.
+ * - Any bytes may be given as plan and as sheet: nothing about them has to be tested before a call.
+ * - Every call ends. There is no global state and no heap, so calls from several threads do not meet.
+ * - A refusal answers 65,536 x its number + its place; its place is below 65,536 and its number is 1 to 16.
+ *   Refusals 1 to 9 are about the plan, 10 is about the buffer, 11 to 16 are about the sheet.
+ * - The longest accepted plan has POOL_PLAN_MAX bytes, the longest accepted sheet POOL_SHEET_MAX bytes.
+ */
+#ifndef POOL_H
+#define POOL_H
+
+#include <stdbool.h>
+#include <stddef.h>
+#include <stdint.h>
+
+#ifdef __cplusplus
+extern "C" {
+#endif
+
+/* The limits of plans and sheets. */
+#define POOL_PLAN_MAX 3100
+#define POOL_SHEET_MAX 2642
+#define POOL_INSTRUMENTS_MAX 64
+#define POOL_TEAMS_MAX 12
+
+/* The answer of pool_check for an accepted sheet. */
+#define POOL_ACCEPTED UINT64_C(0)
+
+/* A refusal's number is counted in this unit. */
+#define POOL_REFUSAL UINT64_C(65536)
+
+/*
+ * Build: writes the sheet of a plan into the lent buffer and answers its length L, which is below 65,536.
+ * Exactly the first L bytes of the buffer are written; on a refusal the buffer is untouched.
+ * A buffer of POOL_SHEET_MAX bytes is long enough for every plan; one shorter than L is refusal 10, place L.
+ * Plan and buffer must not overlap.
+ */
+uint64_t pool_build(const uint8_t *plan, size_t plan_len, uint8_t *buffer, size_t buffer_len);
+
+/*
+ * Check: answers POOL_ACCEPTED or the refusal of this sheet for this plan. Nothing is written.
+ */
+uint64_t pool_check(const uint8_t *plan, size_t plan_len, const uint8_t *sheet, size_t sheet_len);
+
+/* Tells whether an answer of either function is a refusal. */
+static inline bool pool_refused(uint64_t answer)
+{
+    return answer >= POOL_REFUSAL;
+}
+
+/* The number of a refusal: what is wrong. */
+static inline uint64_t pool_number(uint64_t answer)
+{
+    return answer / POOL_REFUSAL;
+}
+
+/* The place of a refusal: an offset, a length or a team, as its number says. */
+static inline size_t pool_place(uint64_t answer)
+{
+    return (size_t)(answer % POOL_REFUSAL);
+}
+
+#ifdef __cplusplus
+}
+#endif
+
+#endif

@@ -1,0 +1,100 @@
+/* The commands of a plan: their names and operands, and the way from one to the next. */
+#include "plan.h"
+
+static const struct plan_form forms[] = {
+    [PLAN_START] = {"START", 2, {OPERAND_VERSION, OPERAND_COUNT}},
+    [PLAN_CAPS] = {"CAPS", 1, {OPERAND_CHANNELS}},
+    [PLAN_LOOPS] = {"LOOPS", 1, {OPERAND_CHANNELS}},
+    [PLAN_CLASS] = {"CLASS", 2, {OPERAND_CLASS, OPERAND_CAP}},
+    [PLAN_PUT] = {"PUT", 2, {OPERAND_INSTRUMENT, OPERAND_CLASS}},
+    [PLAN_SPAN] = {"SPAN", 3, {OPERAND_INSTRUMENT, OPERAND_JOINT, OPERAND_JOINT}},
+    [PLAN_END] = {.name = "END", .count = 0},
+};
+
+static const struct plan_operand operands[] = {
+    [OPERAND_VERSION] = {"version", 1, 2},
+    [OPERAND_COUNT] = {"instruments", 0, POOL_INSTRUMENTS_MAX + 1},
+    [OPERAND_CHANNELS] = {"channels", 0, 256},
+    [OPERAND_CLASS] = {"class", 0, 16},
+    [OPERAND_CAP] = {"cap", 0, 256},
+    [OPERAND_INSTRUMENT] = {"instrument", 0, 0},
+    [OPERAND_JOINT] = {"joint", 0, 64},
+};
+
+/* The form of a command byte; null if it is no command. */
+const struct plan_form *plan_form(uint8_t byte)
+{
+    return byte >= PLAN_START && byte <= PLAN_END ? &forms[byte] : NULL;
+}
+
+/* The name and values of an operand in this plan. */
+struct plan_operand plan_operand(const struct content *plan, enum operand operand)
+{
+    struct plan_operand answer = operands[operand];
+
+    if (operand == OPERAND_INSTRUMENT)
+        answer.end = (unsigned)plan_instruments(plan);
+    return answer;
+}
+
+/* The first command of a plan. */
+struct plan_place plan_first(void)
+{
+    return (struct plan_place){.number = 1};
+}
+
+/* Goes on to the next command; answers false, without moving, where there is no whole command. */
+bool plan_next(const struct content *plan, struct plan_place *place)
+{
+    const struct plan_form *form;
+    uint8_t byte;
+
+    if (place->offset >= plan->length)
+        return false;
+    byte = plan->at[place->offset];
+    form = plan_form(byte);
+    if (form == NULL || plan->length - place->offset <= form->count)
+        return false;
+    if (byte == PLAN_CAPS || byte == PLAN_LOOPS) {
+        place->teams++;
+        place->team = place->offset;
+    }
+    place->previous = place->offset;
+    place->offset += 1 + form->count;
+    place->number++;
+    return true;
+}
+
+/* Goes from the first command to the one at an offset, or as far as there are whole commands. */
+struct plan_place plan_at(const struct content *plan, size_t offset)
+{
+    struct plan_place place = plan_first();
+
+    while (place.offset < offset)
+        if (!plan_next(plan, &place))
+            break;
+    return place;
+}
+
+/* The number of instruments an accepted plan states. */
+size_t plan_instruments(const struct content *plan)
+{
+    return plan->length > 2 ? plan->at[2] : 0;
+}
+
+/* The number of teams in an accepted plan. */
+size_t plan_teams(const struct content *plan)
+{
+    return plan_at(plan, plan->length).teams;
+}
+
+/* The command byte that opens a team of an accepted plan; 0 for a team not in the plan. */
+uint8_t plan_kind(const struct content *plan, size_t team)
+{
+    struct plan_place place = plan_first();
+
+    while (place.teams <= team)
+        if (!plan_next(plan, &place))
+            return 0;
+    return plan->at[place.team];
+}

@@ -1,0 +1,221 @@
+/* What is wrong with a plan, in words: refusals 1 to 9. */
+#include "plan.h"
+#include "refusal.h"
+
+/* A refused plan and its faulty command. */
+struct fault {
+    FILE *out;
+    const struct content *plan;
+    struct plan_place place;
+    const uint8_t *command;       /* the bytes of the faulty command */
+    size_t size;                  /* how many of them are in the file */
+    const struct plan_form *form; /* null if it is no command */
+};
+
+/* Finds the command at a refusal's place, as far as the file goes there. */
+static struct fault find_fault(FILE *out, const struct refusal *refusal)
+{
+    struct fault fault = {.out = out, .plan = refusal->plan, .place = plan_at(refusal->plan, refusal->place)};
+
+    fault.command = fault.plan->at + fault.place.offset;
+    fault.size = fault.plan->length - fault.place.offset;
+    if (fault.size > 0)
+        fault.form = plan_form(fault.command[0]);
+    if (fault.form != NULL && fault.size > 1 + fault.form->count)
+        fault.size = 1 + fault.form->count;
+    return fault;
+}
+
+/* Begins a sentence with the faulty command: its number, name, offset and bytes. */
+static void print_command(const struct fault *fault)
+{
+    fprintf(fault->out, "Command %zu of the plan, %s at byte %zu (", fault->place.number, fault->form->name,
+            fault->place.offset);
+    for (size_t i = 0; i < fault->size; i++)
+        fprintf(fault->out, i == 0 ? "%02X" : " %02X", fault->command[i]);
+    fputs("), ", fault->out);
+}
+
+/* 1: the plan does not begin with START. */
+static void print_no_start(const struct fault *fault)
+{
+    if (fault->plan->length == 0)
+        fputs("The plan is empty; command 1, at byte 0, has to be START (01).", fault->out);
+    else
+        fprintf(fault->out, "Command 1 of the plan, at byte 0, is %02X; it has to be START (01).", fault->plan->at[0]);
+}
+
+/* 2 after a whole command: the plan has no END. */
+static void print_no_end(const struct fault *fault)
+{
+    const struct plan_place *place = &fault->place;
+
+    fprintf(fault->out, "The plan ends at byte %zu without END (07); its last command is command %zu, %s at byte %zu.",
+            place->offset, place->number - 1, plan_form(fault->plan->at[place->previous])->name, place->previous);
+}
+
+/* 2 within a command: its operands are cut short. */
+static void print_cut_short(const struct fault *fault)
+{
+    print_command(fault);
+    fprintf(fault->out, "is cut short; it takes %zu operand%s, and the file ends after %zu.", fault->form->count,
+            fault->form->count == 1 ? "" : "s", fault->size - 1);
+}
+
+/* 3: the byte is no command. */
+static void print_unknown(const struct fault *fault)
+{
+    fprintf(fault->out, "Command %zu of the plan, at byte %zu, is %02X, which is no command; commands are 01 to 07.",
+            fault->place.number, fault->place.offset, fault->command[0]);
+}
+
+/* 4 for a command of a team: no team or the other kind of team is open. */
+static void print_wrong_team(const struct fault *fault)
+{
+    fprintf(fault->out, "is in the wrong place; it belongs to a %s team, and ",
+            fault->command[0] == PLAN_SPAN ? "LOOPS" : "CAPS");
+    if (fault->place.teams == 0)
+        fputs("no team is open.", fault->out);
+    else
+        fprintf(fault->out, "team %zu is a %s team.", fault->place.teams - 1,
+                plan_form(fault->plan->at[fault->place.team])->name);
+}
+
+/* 4: the command does not belong where it stands. */
+static void print_misplaced(const struct fault *fault)
+{
+    print_command(fault);
+    if (fault->command[0] == PLAN_START)
+        fputs("is a second START; START stands first and once.", fault->out);
+    else if (fault->command[0] == PLAN_END)
+        fprintf(fault->out, "ends a plan without teams; a plan has 1 to %d teams.", POOL_TEAMS_MAX);
+    else
+        print_wrong_team(fault);
+}
+
+/* 5 for an instrument: the plan does not have it. */
+static void print_no_instrument(const struct fault *fault, unsigned instrument)
+{
+    size_t instruments = plan_instruments(fault->plan);
+
+    fprintf(fault->out, "has instrument %u; the plan has ", instrument);
+    if (instruments == 0)
+        fputs("no instruments.", fault->out);
+    else
+        fprintf(fault->out, "the instruments 0 to %zu.", instruments - 1);
+}
+
+/* 5 for another operand: its name, its value and the values it may have. */
+static void print_wrong_value(const struct fault *fault, struct plan_operand operand, unsigned value)
+{
+    fprintf(fault->out, "has %s %u; allowed is %u", operand.name, value, operand.least);
+    if (operand.end - operand.least > 1)
+        fprintf(fault->out, " to %u", operand.end - 1);
+    fputs(".", fault->out);
+}
+
+/* 5: an operand is out of its range; the first such operand is named. */
+static void print_out_of_range(const struct fault *fault)
+{
+    print_command(fault);
+    for (size_t i = 0; i < fault->form->count; i++) {
+        struct plan_operand operand = plan_operand(fault->plan, fault->form->operands[i]);
+        unsigned value = fault->command[i + 1];
+
+        if (value >= operand.least && value < operand.end)
+            continue;
+        if (fault->form->operands[i] == OPERAND_INSTRUMENT)
+            print_no_instrument(fault, value);
+        else
+            print_wrong_value(fault, operand, value);
+        return;
+    }
+    fputs("has an operand out of its range.", fault->out);
+}
+
+/* Finds the first command of the open team that names what the faulty one names. */
+static struct plan_place first_naming(const struct fault *fault)
+{
+    struct plan_place place = plan_at(fault->plan, fault->place.team);
+
+    while (plan_next(fault->plan, &place))
+        if (fault->plan->at[place.offset] == fault->command[0] &&
+            fault->plan->at[place.offset + 1] == fault->command[1])
+            break;
+    return place;
+}
+
+/* 6: a class is capped twice or an instrument named twice in one team. */
+static void print_repeated(const struct fault *fault)
+{
+    struct plan_place first = first_naming(fault);
+
+    print_command(fault);
+    fputs(fault->command[0] == PLAN_CLASS ? "caps class" : "names instrument", fault->out);
+    fprintf(fault->out, " %u a second time in team %zu; the first time is command %zu at byte %zu.", fault->command[1],
+            fault->place.teams - 1, first.number, first.offset);
+}
+
+/* 7: there are too many teams. */
+static void print_too_many_teams(const struct fault *fault)
+{
+    print_command(fault);
+    fprintf(fault->out, "opens team %zu; a plan has at most %d teams, 0 to %d.", fault->place.teams, POOL_TEAMS_MAX,
+            POOL_TEAMS_MAX - 1);
+}
+
+/* 8: a gauge's two joints are one. */
+static void print_equal_joints(const struct fault *fault)
+{
+    print_command(fault);
+    fprintf(fault->out, "joins joint %u to itself; its two joints have to differ.", fault->command[2]);
+}
+
+/* 9: the file goes on after END. */
+static void print_extra(const struct fault *fault)
+{
+    fprintf(fault->out, "The plan goes on at byte %zu after command %zu, END at byte %zu; nothing may follow END.",
+            fault->place.offset, fault->place.number - 1, fault->place.previous);
+}
+
+/* Prints the fault of a command that is whole, for the numbers 4 to 8; answers false for another number. */
+static bool print_whole(const struct fault *fault, uint64_t number)
+{
+    if (number == 4)
+        print_misplaced(fault);
+    else if (number == 5)
+        print_out_of_range(fault);
+    else if (number == 6 && fault->size > 1 && fault->place.teams > 0)
+        print_repeated(fault);
+    else if (number == 7)
+        print_too_many_teams(fault);
+    else if (number == 8 && fault->size > 2)
+        print_equal_joints(fault);
+    else
+        return false;
+    return true;
+}
+
+/* Prints what is wrong with the plan, for the numbers 1 to 9; answers false for another refusal. */
+bool refusal_print_plan(FILE *out, const struct refusal *refusal)
+{
+    struct fault fault = find_fault(out, refusal);
+
+    if (fault.place.offset != refusal->place)
+        return false;
+    if (fault.form != NULL && fault.size == 1 + fault.form->count && print_whole(&fault, refusal->number))
+        return true;
+    if (refusal->number == 1)
+        print_no_start(&fault);
+    else if (refusal->number == 2 && fault.size > 0 && fault.form != NULL)
+        print_cut_short(&fault);
+    else if (refusal->number == 2 && fault.size == 0 && fault.place.number > 1)
+        print_no_end(&fault);
+    else if (refusal->number == 3 && fault.size > 0)
+        print_unknown(&fault);
+    else if (refusal->number == 9 && fault.place.number > 1)
+        print_extra(&fault);
+    else
+        return false;
+    return true;
+}

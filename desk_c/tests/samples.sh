@@ -1,0 +1,57 @@
+# The plans and sheets of the tests. Each sheet is one of those that are right for its plan.
+# shellcheck shell=sh
+
+none='00 00 00 00 00 00 00 00'
+
+# Plan A: two gauges on one pair of joints, and a team that takes gauge 1 alone.
+plan_a='01 01 02 03 02 06 00 01 02 06 01 01 02 02 01 04 00 01 05 01 00 07'
+
+# The offsets in its sheet: HEAD 0, GIVEs 4 and 7, BOUND 10, SHARE 19, PARTs 30 and 33, SHARE 36, PARTs 47 and 50, END 53.
+sheet_a="11 02 02 02 12 00 00 12 01 01 13 $none 14 00 01 $none 15 00 00 15 01 01
+    14 01 00 01 00 00 00 00 00 00 00 15 00 00 15 01 00 16"
+
+# A plan without instruments.
+plan_zero='01 01 00 02 00 07'
+
+# Six instruments: team 0 takes one of 0 and 1, one of 2 and 3, and both 4 and 5; team 1 takes all.
+plan_six='01 01 06 02 06 04 00 01 04 01 01 04 02 02 05 00 00 05 01 00 05 02 01 05 03 01 05 04 02 05 05 02
+    02 06 04 00 06 05 00 00 05 01 00 05 02 00 05 03 00 05 04 00 05 05 00 07'
+
+parts_six='15 00 00 15 01 01 15 02 00 15 03 01 15 04 00 15 05 01'
+
+# What follows the GIVEs in a sheet of six instruments.
+rest_six="13 $none 14 00 03 $none $parts_six 14 01 03 $none $parts_six 16"
+
+sheet_six="11 06 02 06 12 00 00 12 01 01 12 02 00 12 03 01 12 04 00 12 05 01 $rest_six"
+
+# The same with {4,5} for team 0: a greatest total, but less than its share.
+unfair_six="11 06 02 06 12 00 01 12 01 01 12 02 01 12 03 01 12 04 00 12 05 00 $rest_six"
+
+# Prints the longest plan in hexadecimal: twelve LOOPS teams with the given channels, each with 64 gauges in a ring.
+longest_plan() {
+    printf '01 01 40'
+    team=0
+    while [ $team -lt 12 ]; do
+        printf ' 03 %s' "$1"
+        gauge=0
+        while [ $gauge -lt 64 ]; do
+            printf ' 06 %02x %02x %02x' $gauge $gauge $(((gauge + 1) % 64))
+            gauge=$((gauge + 1))
+        done
+        team=$((team + 1))
+    done
+    printf ' 07'
+}
+
+# Writes the samples as files. The lists are split into words on purpose.
+# shellcheck disable=SC2046,SC2086
+write_samples() {
+    hex a.plan $plan_a
+    hex a.sheet $sheet_a
+    hex zero.plan $plan_zero
+    hex six.plan $plan_six
+    hex six.sheet $sheet_six
+    hex unfair.sheet $unfair_six
+    hex longest.plan $(longest_plan 06)
+    hex empty
+}

@@ -1,0 +1,26 @@
+# The words of refusals that no file leads to, and numbers and places that the library never answers.
+# shellcheck shell=sh
+
+expect 'words of refusal 10' 0 'REFUSED 10 54
+The buffer lent for the sheet is too short; the sheet has 54 bytes.' '' "$words" 10 54 a.plan -
+expect 'no words for number 17' 0 'REFUSED 17 3
+This program has no words for that number and place.' '' "$words" 17 3 a.plan a.sheet
+expect 'no words for a place within a command' 0 'REFUSED 5 1
+This program has no words for that number and place.' '' "$words" 5 1 a.plan -
+
+# Every number with every place, on right bytes and on wrong ones, is answered without a fault.
+answers_all() {
+    "$words" all all "$1" "$2" >all.out 2>all.err && [ ! -s all.err ] && [ "$(wc -l <all.out)" -eq 168000 ]
+}
+while read -r plan sheet; do
+    verdict "all words for $plan and $sheet" answers_all "$plan" "$sheet"
+done <<END
+a.plan a.sheet
+a.plan -
+six.plan unfair.sheet
+longest.plan longest.sheet
+huge.plan huge.sheet
+empty empty
+bad.plan a.sheet
+END
+rm all.out all.err

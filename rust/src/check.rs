@@ -1,0 +1,106 @@
+//! Check: the rules 11 to 16 in rising order, and Page.
+
+use crate::bits;
+use crate::form;
+use crate::plan::{self, Plan, Team, MOST_TEAMS};
+use crate::refusal::Refusal;
+use crate::sheet::{self, Layout};
+
+/// Check as one number: 0, or the refusal's code.
+pub fn answer(file: &[u8], sheet: &[u8]) -> u64 {
+    check(file, sheet).err().map_or(0, Refusal::code)
+}
+
+/// Check: reads the plan, then judges the sheet.
+pub fn check(file: &[u8], sheet: &[u8]) -> Result<(), Refusal> {
+    judge(&plan::read(file)?, sheet)
+}
+
+/// Page: a team's SHARE and PARTs of an accepted sheet, else the empty stretch.
+pub fn page<'a>(file: &[u8], sheet: &'a [u8], team: usize) -> &'a [u8] {
+    match plan::read(file) {
+        Ok(plan) if team < plan.teams.len() && judge(&plan, sheet).is_ok() => {
+            let layout = layout_of(&plan);
+            &sheet[layout.share(team)..layout.share(team + 1)]
+        }
+        _ => &[],
+    }
+}
+
+/// The layout of a plan's sheets.
+pub fn layout_of(plan: &Plan) -> Layout {
+    Layout {
+        instruments: plan.instruments,
+        teams: plan.teams.len(),
+    }
+}
+
+/// Judges a sheet by a plan already read.
+pub fn judge(plan: &Plan, sheet: &[u8]) -> Result<(), Refusal> {
+    let layout = layout_of(plan);
+    if sheet.len() != layout.length() {
+        return Err(Refusal::new(11, 0));
+    }
+    if let Some(offset) = form::first_fault(plan, sheet) {
+        return Err(Refusal::new(12, offset));
+    }
+    let gives = &sheet[layout.give(0)..layout.bound()];
+    let bundles = cut(gives);
+    let held = &bundles[..plan.teams.len()];
+    lowest_team(13, plan, |t, team| team.independent(held[t]))?;
+    if !total_holds(plan, held, sheet) {
+        return Err(Refusal::new(14, 0));
+    }
+    lowest_team(15, plan, |t, team| {
+        let stretch = &sheet[layout.share(t)..layout.share(t + 1)];
+        share_holds(plan, team, stretch)
+    })?;
+    lowest_team(16, plan, |t, _| {
+        bits::size(held[t]) >= u32::from(sheet[layout.share(t) + 2])
+    })
+}
+
+/// Refuses at the lowest team that fails the test.
+fn lowest_team(
+    number: u8,
+    plan: &Plan,
+    passes: impl Fn(usize, &Team) -> bool,
+) -> Result<(), Refusal> {
+    for (place, team) in plan.teams.iter().enumerate() {
+        if !passes(place, team) {
+            return Err(Refusal::new(number, place));
+        }
+    }
+    Ok(())
+}
+
+/// The sets named by a row of GIVEs or PARTs; the pool is left out.
+fn cut(commands: &[u8]) -> [u64; MOST_TEAMS] {
+    let mut sets = [0; MOST_TEAMS];
+    for (item, command) in commands.chunks_exact(3).enumerate() {
+        if let Some(set) = sets.get_mut(usize::from(command[2])) {
+            *set |= bits::one(item);
+        }
+    }
+    sets
+}
+
+/// Rule 14: the stated total is what is given and what BOUND's set allows.
+fn total_holds(plan: &Plan, held: &[u64], sheet: &[u8]) -> bool {
+    let stated = u32::from(sheet[3]);
+    let given: u32 = held.iter().map(|&bundle| bits::size(bundle)).sum();
+    let set = sheet::set_at(sheet, layout_of(plan).bound() + 1);
+    let ranks: u32 = plan.teams.iter().map(|team| team.rank(set)).sum();
+    stated == given && stated == bits::size(plan.all() & !set) + ranks
+}
+
+/// Rule 15: every part attains the share, and the set shows that no cut does better.
+fn share_holds(plan: &Plan, team: &Team, stretch: &[u8]) -> bool {
+    let teams = plan.teams.len();
+    let share = u32::from(stretch[2]);
+    let set = sheet::set_at(stretch, 3);
+    let parts = cut(&stretch[11..]);
+    let attained = parts[..teams].iter().all(|&part| team.rank(part) >= share);
+    let most = bits::size(plan.all() & !set) + teams as u32 * team.rank(set);
+    attained && most < teams as u32 * (share + 1)
+}

@@ -1,0 +1,100 @@
+//! Named example plans: plan A and three weeks of growing size. In each of the weeks the
+//! greatest total alone would leave some team below its share.
+
+use crate::writer::{plan_a, PlanWriter};
+
+/// A plan with the name of its file.
+pub struct Example {
+    pub name: &'static str,
+    pub plan: Vec<u8>,
+}
+
+/// All examples, by growing size.
+pub fn all() -> Vec<Example> {
+    let example = |name, plan| Example { name, plan };
+    vec![
+        example("plan-a", plan_a()),
+        example("footbridge", footbridge()),
+        example("tunnel", tunnel()),
+        example("valley", valley()),
+    ]
+}
+
+/// Three teams, ten instruments: a survey that logs anything, a truss whose members are
+/// measured by strain gauges 0 to 6, and a logger with two strain and two tilt channels.
+fn footbridge() -> Vec<u8> {
+    let mut plan = PlanWriter::start(10);
+    survey(&mut plan, 0..10, 10);
+    plan.loops(8);
+    let members = [(0, 1), (1, 2), (0, 2), (2, 3), (1, 3), (3, 4), (2, 4)];
+    for (item, (a, b)) in members.into_iter().enumerate() {
+        plan.span(item, a, b);
+    }
+    plan.caps(4).class(0, 2).class(1, 2);
+    for item in 0..10 {
+        plan.put(item, u8::from(item >= 7));
+    }
+    plan.end()
+}
+
+/// Six teams, 28 instruments: 0 to 15 measure lengths, 16 to 23 tilt, 24 to 27 water.
+fn tunnel() -> Vec<u8> {
+    let mut plan = PlanWriter::start(28);
+    survey(&mut plan, 0..28, 28);
+    ring(&mut plan, 0..16, 5, 1, 12);
+    ring(&mut plan, 0..16, 6, 2, 12);
+    logger(&mut plan, &[(0..16, 2), (16..24, 2), (24..28, 1)], 5);
+    logger(&mut plan, &[(16..24, 3), (24..28, 2)], 4);
+    ring(&mut plan, 0..24, 8, 3, 6);
+    plan.end()
+}
+
+/// Twelve teams, 64 instruments: 0 to 39 measure lengths, 40 to 51 tilt, 52 to 59 water,
+/// 60 to 63 wind. Two surveys log much, five teams watch networks of joints, five log
+/// classes.
+fn valley() -> Vec<u8> {
+    let mut plan = PlanWriter::start(64);
+    survey(&mut plan, 0..64, 64);
+    survey(&mut plan, 20..64, 30);
+    for (joints, stride) in [(6, 1), (7, 2), (9, 4), (12, 5), (16, 3)] {
+        ring(&mut plan, 0..40, joints, stride, 2 * joints as u8);
+    }
+    logger(&mut plan, &[(0..20, 2), (20..40, 2), (40..52, 2)], 6);
+    logger(&mut plan, &[(40..52, 3), (52..60, 2), (60..64, 1)], 5);
+    logger(&mut plan, &[(0..40, 3), (52..60, 1)], 8);
+    logger(&mut plan, &[(30..44, 4), (44..58, 4), (58..64, 2)], 9);
+    logger(&mut plan, &[(60..64, 2), (0..10, 1), (10..30, 2)], 4);
+    plan.end()
+}
+
+/// A CAPS team that takes any of these instruments, up to its channels.
+fn survey(plan: &mut PlanWriter, items: std::ops::Range<usize>, channels: u8) {
+    logger(plan, &[(items, channels)], channels);
+}
+
+/// A CAPS team with a class for each stretch of instruments.
+fn logger(plan: &mut PlanWriter, classes: &[(std::ops::Range<usize>, u8)], channels: u8) {
+    plan.caps(channels);
+    for (class, (items, cap)) in classes.iter().enumerate() {
+        plan.class(class as u8, *cap);
+        for item in items.clone() {
+            plan.put(item, class as u8);
+        }
+    }
+}
+
+/// A LOOPS team: instruments laid around a ring of joints, each round reaching further.
+fn ring(
+    plan: &mut PlanWriter,
+    items: std::ops::Range<usize>,
+    joints: usize,
+    stride: usize,
+    channels: u8,
+) {
+    plan.loops(channels);
+    for item in items {
+        let from = item * stride % joints;
+        let reach = 1 + item / joints % (joints - 1);
+        plan.span(item, from as u8, ((from + reach) % joints) as u8);
+    }
+}

@@ -1,0 +1,20 @@
+//! The two C functions of the proved library, behind safe slices.
+
+#![allow(unsafe_code)]
+
+extern "C" {
+    fn pool_build(plan: *const u8, plan_len: usize, buffer: *mut u8, buffer_len: usize) -> u64;
+    fn pool_check(plan: *const u8, plan_len: usize, sheet: *const u8, sheet_len: usize) -> u64;
+}
+
+/// Build: L, or 65,536 × number + place.
+pub fn build(plan: &[u8], buffer: &mut [u8]) -> u64 {
+    // SAFETY: both pointers are good for their lengths, and the slices do not overlap.
+    unsafe { pool_build(plan.as_ptr(), plan.len(), buffer.as_mut_ptr(), buffer.len()) }
+}
+
+/// Check: 0, or 65,536 × number + place.
+pub fn check(plan: &[u8], sheet: &[u8]) -> u64 {
+    // SAFETY: both pointers are good for their lengths and are only read.
+    unsafe { pool_check(plan.as_ptr(), plan.len(), sheet.as_ptr(), sheet.len()) }
+}

@@ -1,0 +1,24 @@
+//! The instrument pool in plain Rust: reading plans, worth, building sheets,
+//! checking sheets and handing out one team's page.
+
+#![deny(unsafe_code)]
+
+pub mod bits;
+pub mod brute;
+pub mod build;
+pub mod check;
+pub mod definition;
+pub mod examples;
+pub mod family;
+#[cfg(proved)]
+pub mod ffi;
+pub mod form;
+pub mod partition;
+pub mod plan;
+pub mod random;
+pub mod refusal;
+pub mod sample;
+pub mod sheet;
+pub mod union_find;
+pub mod worth;
+pub mod writer;

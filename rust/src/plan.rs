@@ -1,0 +1,256 @@
+//! Reading a plan: commands of one byte with operands of one byte.
+
+use crate::bits;
+use crate::refusal::Refusal;
+
+/// The most teams a plan may have.
+pub const MOST_TEAMS: usize = 12;
+/// The most instruments a plan may have.
+pub const MOST_INSTRUMENTS: usize = 64;
+/// The number of classes a CAPS team can name.
+pub const CLASSES: usize = 16;
+/// The number of joints a LOOPS team can name.
+pub const JOINTS: usize = 64;
+
+/// A whole plan: the number of instruments and the teams in file order.
+#[derive(Clone, Debug, PartialEq, Eq)]
+pub struct Plan {
+    pub instruments: usize,
+    pub teams: Vec<Team>,
+}
+
+/// One team: its channels and its rule for independent sets.
+#[derive(Clone, Debug, PartialEq, Eq)]
+pub struct Team {
+    pub channels: u8,
+    pub kind: Kind,
+}
+
+/// The two kinds of team.
+#[derive(Clone, Debug, PartialEq, Eq)]
+pub enum Kind {
+    /// A partition matroid.
+    Caps(Box<Classes>),
+    /// A graphic matroid.
+    Loops(Box<Graph>),
+}
+
+/// The classes of a CAPS team; a class with no CLASS has cap 0.
+#[derive(Clone, Debug, PartialEq, Eq)]
+pub struct Classes {
+    pub cap: [Option<u8>; CLASSES],
+    pub class_of: [Option<u8>; MOST_INSTRUMENTS],
+    /// The instruments PUT in each class.
+    pub members: [u64; CLASSES],
+}
+
+/// The graph of a LOOPS team: instruments are edges between joints.
+#[derive(Clone, Debug, PartialEq, Eq)]
+pub struct Graph {
+    pub ends: [Option<(u8, u8)>; MOST_INSTRUMENTS],
+    /// The instruments with an end at each joint.
+    pub touching: [u64; JOINTS],
+}
+
+impl Plan {
+    /// The set of all instruments of the plan.
+    pub fn all(&self) -> u64 {
+        bits::first(self.instruments)
+    }
+}
+
+/// Reads a whole plan, or tells what is wrong with its first faulty command.
+pub fn read(file: &[u8]) -> Result<Plan, Refusal> {
+    if file.first() != Some(&0x01) {
+        return Err(Refusal::new(1, 0));
+    }
+    let mut reader = Reader::new(file);
+    while reader.at < file.len() {
+        if reader.command()? {
+            return reader.finish();
+        }
+    }
+    Err(Refusal::new(2, file.len()))
+}
+
+/// The file, the offset of its next command, and the plan so far.
+struct Reader<'a> {
+    file: &'a [u8],
+    at: usize,
+    plan: Plan,
+}
+
+impl<'a> Reader<'a> {
+    /// A reader at the start of the file.
+    fn new(file: &'a [u8]) -> Self {
+        let plan = Plan {
+            instruments: 0,
+            teams: Vec::new(),
+        };
+        Reader { file, at: 0, plan }
+    }
+
+    /// The plan, unless bytes follow END.
+    fn finish(self) -> Result<Plan, Refusal> {
+        if self.at < self.file.len() {
+            return Err(Refusal::new(9, self.at));
+        }
+        Ok(self.plan)
+    }
+
+    /// Reads one command and steps over it; true after END.
+    fn command(&mut self) -> Result<bool, Refusal> {
+        let byte = self.file[self.at];
+        let count = operand_count(byte).ok_or(self.fault(3))?;
+        let start = self.at + 1;
+        let operands = self.file.get(start..start + count).ok_or(self.fault(2))?;
+        if !self.in_place(byte) {
+            return Err(self.fault(4));
+        }
+        self.carry_out(byte, operands)
+            .map_err(|number| self.fault(number))?;
+        self.at = start + count;
+        Ok(byte == 0x07)
+    }
+
+    /// A refusal at the present command.
+    fn fault(&self, number: u8) -> Refusal {
+        Refusal::new(number, self.at)
+    }
+
+    /// Whether this command may stand here.
+    fn in_place(&self, byte: u8) -> bool {
+        let open = self.plan.teams.last().map(|team| &team.kind);
+        match byte {
+            0x01 => self.at == 0,
+            0x04 | 0x05 => matches!(open, Some(Kind::Caps(_))),
+            0x06 => matches!(open, Some(Kind::Loops(_))),
+            0x07 => open.is_some(),
+            _ => true,
+        }
+    }
+
+    /// Carries out a command that stands in its place, or gives the refusal's number.
+    fn carry_out(&mut self, byte: u8, operands: &[u8]) -> Result<(), u8> {
+        let count = self.plan.instruments;
+        match (byte, operands) {
+            (0x01, &[version, instruments]) => self.start(version, instruments),
+            (0x02, &[channels]) => self.open(channels, Kind::Caps(Box::default())),
+            (0x03, &[channels]) => self.open(channels, Kind::Loops(Box::default())),
+            (0x04, &[class, cap]) => self.classes().class(class, cap),
+            (0x05, &[item, class]) => self.classes().put(count, item, class),
+            (0x06, &[item, a, b]) => self.graph().span(count, item, a, b),
+            _ => Ok(()),
+        }
+    }
+
+    /// START: the version and the number of instruments.
+    fn start(&mut self, version: u8, instruments: u8) -> Result<(), u8> {
+        if version != 1 || usize::from(instruments) > MOST_INSTRUMENTS {
+            return Err(5);
+        }
+        self.plan.instruments = usize::from(instruments);
+        Ok(())
+    }
+
+    /// CAPS or LOOPS: opens the next team.
+    fn open(&mut self, channels: u8, kind: Kind) -> Result<(), u8> {
+        if self.plan.teams.len() == MOST_TEAMS {
+            return Err(7);
+        }
+        self.plan.teams.push(Team { channels, kind });
+        Ok(())
+    }
+
+    /// The classes of the open CAPS team.
+    fn classes(&mut self) -> &mut Classes {
+        match self.plan.teams.last_mut().map(|team| &mut team.kind) {
+            Some(Kind::Caps(classes)) => classes,
+            _ => unreachable!("the place was tested"),
+        }
+    }
+
+    /// The graph of the open LOOPS team.
+    fn graph(&mut self) -> &mut Graph {
+        match self.plan.teams.last_mut().map(|team| &mut team.kind) {
+            Some(Kind::Loops(graph)) => graph,
+            _ => unreachable!("the place was tested"),
+        }
+    }
+}
+
+/// The number of operands of a command, if there is such a command.
+pub fn operand_count(byte: u8) -> Option<usize> {
+    match byte {
+        0x07 => Some(0),
+        0x02 | 0x03 => Some(1),
+        0x01 | 0x04 | 0x05 => Some(2),
+        0x06 => Some(3),
+        _ => None,
+    }
+}
+
+impl Default for Classes {
+    fn default() -> Self {
+        Classes {
+            cap: [None; CLASSES],
+            class_of: [None; MOST_INSTRUMENTS],
+            members: [0; CLASSES],
+        }
+    }
+}
+
+impl Classes {
+    /// CLASS: sets a cap, once.
+    fn class(&mut self, class: u8, cap: u8) -> Result<(), u8> {
+        let slot = self.cap.get_mut(usize::from(class)).ok_or(5)?;
+        if slot.is_some() {
+            return Err(6);
+        }
+        *slot = Some(cap);
+        Ok(())
+    }
+
+    /// PUT: puts an instrument in a class, once.
+    fn put(&mut self, count: usize, item: u8, class: u8) -> Result<(), u8> {
+        let place = usize::from(item);
+        if place >= count || usize::from(class) >= CLASSES {
+            return Err(5);
+        }
+        if self.class_of[place].is_some() {
+            return Err(6);
+        }
+        self.class_of[place] = Some(class);
+        self.members[usize::from(class)] |= bits::one(place);
+        Ok(())
+    }
+}
+
+impl Default for Graph {
+    fn default() -> Self {
+        Graph {
+            ends: [None; MOST_INSTRUMENTS],
+            touching: [0; JOINTS],
+        }
+    }
+}
+
+impl Graph {
+    /// SPAN: lets an instrument join two different joints, once.
+    fn span(&mut self, count: usize, item: u8, a: u8, b: u8) -> Result<(), u8> {
+        let place = usize::from(item);
+        if place >= count || usize::from(a.max(b)) >= JOINTS {
+            return Err(5);
+        }
+        if a == b {
+            return Err(8);
+        }
+        if self.ends[place].is_some() {
+            return Err(6);
+        }
+        self.ends[place] = Some((a, b));
+        self.touching[usize::from(a)] |= bits::one(place);
+        self.touching[usize::from(b)] |= bits::one(place);
+        Ok(())
+    }
+}

@@ -1,0 +1,143 @@
+//! Worth as matroid rank, computed by counting and by union-find.
+
+use crate::bits;
+use crate::plan::{Classes, Graph, Kind, Plan, Team};
+use crate::refusal::Refusal;
+use crate::union_find::UnionFind;
+
+/// The operation Worth: what a set is worth to a team of the plan in this file.
+/// Bits at or above m are passed over; a team not in the plan finds nothing of worth.
+pub fn worth(file: &[u8], team: usize, set: u64) -> Result<u32, Refusal> {
+    let plan = crate::plan::read(file)?;
+    Ok(worth_in(&plan, team, set))
+}
+
+/// Worth in a plan already read.
+pub fn worth_in(plan: &Plan, team: usize, set: u64) -> u32 {
+    plan.teams
+        .get(team)
+        .map_or(0, |team| team.rank(set & plan.all()))
+}
+
+impl Team {
+    /// Worth: the size of the largest independent part of `set`.
+    pub fn rank(&self, set: u64) -> u32 {
+        let channels = u32::from(self.channels);
+        match &self.kind {
+            Kind::Caps(classes) => classes.rank(set).min(channels),
+            Kind::Loops(graph) => graph.rank(set, channels),
+        }
+    }
+
+    /// Whether the whole set is independent.
+    pub fn independent(&self, set: u64) -> bool {
+        self.rank(set) == bits::size(set)
+    }
+
+    /// The instruments outside an independent bundle that may join it.
+    pub fn gains(&self, bundle: u64) -> u64 {
+        if bits::size(bundle) >= u32::from(self.channels) {
+            return 0;
+        }
+        match &self.kind {
+            Kind::Caps(classes) => classes.gains(bundle),
+            Kind::Loops(graph) => graph.gains(bundle),
+        }
+    }
+
+    /// Channels aside: the members of an independent bundle of which one must leave
+    /// before `item` joins (its fundamental circuit), or nothing when it joins freely.
+    pub fn circuit(&self, bundle: u64, item: usize) -> Option<u64> {
+        match &self.kind {
+            Kind::Caps(classes) => classes.circuit(bundle, item),
+            Kind::Loops(graph) => graph.circuit(bundle, item),
+        }
+    }
+}
+
+impl Classes {
+    /// The cap of a class; 0 when the plan names none.
+    pub fn cap_of(&self, class: usize) -> u32 {
+        self.cap[class].map_or(0, u32::from)
+    }
+
+    /// Each class counts up to its cap.
+    fn rank(&self, set: u64) -> u32 {
+        let classes = self.members.iter().enumerate();
+        classes
+            .map(|(class, members)| bits::size(members & set).min(self.cap_of(class)))
+            .sum()
+    }
+
+    /// The instruments of classes with room left.
+    fn gains(&self, bundle: u64) -> u64 {
+        let classes = self.members.iter().enumerate();
+        classes
+            .filter(|(class, members)| bits::size(*members & bundle) < self.cap_of(*class))
+            .fold(0, |sum, (_, members)| sum | (members & !bundle))
+    }
+
+    /// The held part of a full class.
+    fn circuit(&self, bundle: u64, item: usize) -> Option<u64> {
+        let Some(class) = self.class_of[item].map(usize::from) else {
+            return Some(0);
+        };
+        let held = self.members[class] & bundle;
+        (bits::size(held) >= self.cap_of(class)).then_some(held)
+    }
+}
+
+impl Graph {
+    /// A scan in rising order that keeps what closes no loop, up to `most`.
+    fn rank(&self, set: u64, most: u32) -> u32 {
+        let mut groups = UnionFind::new();
+        let mut kept = 0;
+        for (a, b) in bits::members(set).filter_map(|item| self.ends[item]) {
+            if kept == most {
+                break;
+            }
+            kept += u32::from(groups.join(a, b));
+        }
+        kept
+    }
+
+    /// The instruments that join two groups of joints.
+    fn gains(&self, bundle: u64) -> u64 {
+        let mut groups = UnionFind::new();
+        for (a, b) in bits::members(bundle).filter_map(|item| self.ends[item]) {
+            groups.join(a, b);
+        }
+        let mut gains = 0;
+        for (item, ends) in self.ends.iter().enumerate() {
+            if let Some((a, b)) = *ends {
+                if groups.root(a) != groups.root(b) {
+                    gains |= bits::one(item);
+                }
+            }
+        }
+        gains
+    }
+
+    /// The way through a loop-free bundle from one end of `item` to the other.
+    fn circuit(&self, bundle: u64, item: usize) -> Option<u64> {
+        let Some((from, to)) = self.ends[item] else {
+            return Some(0);
+        };
+        self.way(bundle, from, to)
+    }
+
+    /// Depth-first from joint to joint; instruments that lead nowhere are dropped again.
+    fn way(&self, bundle: u64, from: u8, to: u8) -> Option<u64> {
+        if from == to {
+            return Some(0);
+        }
+        for item in bits::members(self.touching[usize::from(from)] & bundle) {
+            let (a, b) = self.ends[item]?;
+            let next = if a == from { b } else { a };
+            if let Some(rest) = self.way(bundle & !bits::one(item), next, to) {
+                return Some(rest | bits::one(item));
+            }
+        }
+        None
+    }
+}

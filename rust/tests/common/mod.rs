@@ -1,0 +1,159 @@
+//! Shared by the tests: how many cases, and ways to damage plans and sheets.
+
+#![allow(dead_code)]
+
+use pool::plan::{operand_count, Plan};
+use pool::random::Random;
+use pool::sheet::Layout;
+
+/// The number of small cases; POOL_CASES asks for a longer run.
+pub fn cases() -> usize {
+    let asked = std::env::var("POOL_CASES").ok();
+    asked.and_then(|text| text.parse().ok()).unwrap_or(20_000)
+}
+
+/// A reading that is known to succeed.
+pub fn read(file: &[u8]) -> Plan {
+    pool::plan::read(file).expect("a valid plan")
+}
+
+/// Bytes from hexadecimal, spaces allowed.
+pub fn hex(text: &str) -> Vec<u8> {
+    let bytes = text.split_whitespace();
+    bytes
+        .map(|byte| u8::from_str_radix(byte, 16).expect("hexadecimal"))
+        .collect()
+}
+
+/// A sheet built by this crate.
+pub fn own_sheet(file: &[u8]) -> Vec<u8> {
+    let plan = read(file);
+    pool::build::contents(&plan).bytes(plan.instruments)
+}
+
+/// How often each refusal number came up.
+#[derive(Default)]
+pub struct Tally([usize; 17]);
+
+impl Tally {
+    /// Counts an answer of Check, or a refused Build.
+    pub fn count(&mut self, answer: u64) {
+        self.0[(answer >> 16) as usize] += 1;
+    }
+
+    /// Every one of these numbers must have come up.
+    pub fn seen(&self, numbers: impl Iterator<Item = usize>) {
+        for number in numbers {
+            assert!(self.0[number] > 0, "refusal {number} never came up");
+        }
+    }
+}
+
+/// Damages bytes: flips, cuts, additions and splices.
+pub fn damage(random: &mut Random, bytes: &[u8], other: &[u8]) -> Vec<u8> {
+    let mut out = bytes.to_vec();
+    let at = random.below(out.len() + 1);
+    let to = random.between(at, out.len());
+    match random.below(7) {
+        0 if at < out.len() => out[at] ^= 1 << random.below(8),
+        1 if at < out.len() => out[at] = random.byte(),
+        2 => out.truncate(at),
+        3 => out.extend((0..random.between(1, 4)).map(|_| random.byte())),
+        4 => out.insert(at, random.byte()),
+        5 => drop(out.drain(at..to.min(at + 6))),
+        _ => {
+            let from = random.below(other.len() + 1);
+            let until = random.between(from, other.len());
+            out.splice(at..to, other[from..until].iter().copied());
+        }
+    }
+    out
+}
+
+/// Cuts a valid plan into its commands.
+pub fn commands(plan: &[u8]) -> Vec<Vec<u8>> {
+    let mut rest = plan;
+    let mut out = Vec::new();
+    while let Some(&byte) = rest.first() {
+        let length = 1 + operand_count(byte).expect("a command");
+        out.push(rest[..length].to_vec());
+        rest = &rest[length..];
+    }
+    out
+}
+
+/// Damages a plan command by command: left out, repeated, moved, an operand at an edge.
+pub fn damage_commands(random: &mut Random, plan: &[u8]) -> Vec<u8> {
+    let mut row = commands(plan);
+    let at = random.below(row.len());
+    let to = random.below(row.len());
+    match random.below(5) {
+        0 => drop(row.remove(at)),
+        1 => row.insert(to, row[at].clone()),
+        2 => row.swap(at, to),
+        3 => {
+            let place = random.below(row[at].len());
+            let edges = [0, 1, 15, 16, 63, 64, 65, 254, 255, plan[2]];
+            row[at][place] = random.pick(&edges);
+        }
+        _ => {
+            let opening = random.pick(&[0x02, 0x03]);
+            let more = random.between(1, 13);
+            row.splice(at..at, (0..more).map(|_| vec![opening, 9]));
+        }
+    }
+    row.concat()
+}
+
+/// Commands in any order with operands near their edges; START and END mostly there.
+pub fn loose_commands(random: &mut Random) -> Vec<u8> {
+    let count = random.pick(&[0u8, 1, 2, 5, 64, 65]);
+    let mut out = vec![];
+    if random.chance(15, 16) {
+        out.extend([0x01, random.pick(&[1, 1, 1, 1, 1, 1, 0, 2]), count]);
+    }
+    for _ in 0..random.below(24) {
+        let byte = random.pick(&[2, 3, 3, 4, 4, 5, 5, 5, 6, 6, 6, 1, 7, 0, 8]);
+        let usual = random.chance(3, 4);
+        let byte = if usual { byte.clamp(2, 6) } else { byte };
+        out.push(byte);
+        for _ in 0..operand_count(byte).unwrap_or(0) {
+            out.push(random.pick(&[0, 0, 1, 1, 2, 3, 4, 15, 16, 63, 64]));
+        }
+    }
+    if random.chance(7, 8) {
+        out.push(0x07);
+    }
+    out
+}
+
+/// Changes one field of a sheet and keeps its form: the verdict is then about content.
+pub fn damage_field(random: &mut Random, layout: Layout, sheet: &mut [u8]) {
+    let (m, n) = (layout.instruments, layout.teams);
+    let item = random.below(m);
+    let team = random.below(n);
+    let step = random.pick(&[1, 255, 2, 254, 10]);
+    match random.below(6) {
+        0 if m > 0 => {
+            let holder = random.below(n + 1) as u8;
+            sheet[layout.give(item) + 2] = if holder == n as u8 { 0xff } else { holder };
+        }
+        1 if m > 0 => {
+            let other = random.below(m);
+            sheet.swap(layout.give(item) + 2, layout.give(other) + 2);
+        }
+        2 if m > 0 => {
+            sheet[layout.bound() + 1 + item / 8] ^= 1 << (item % 8);
+        }
+        3 if m > 0 => {
+            sheet[layout.share(team) + 3 + item / 8] ^= 1 << (item % 8);
+        }
+        4 if m > 0 => {
+            sheet[layout.part(team, item) + 2] = random.below(n) as u8;
+        }
+        _ => {
+            let place = random.pick(&[3, layout.share(team) + 2]);
+            sheet[place] = sheet[place].wrapping_add(step);
+        }
+    }
+}

@@ -1,0 +1,81 @@
+//! The form of a sheet against a list of the bytes allowed at each offset.
+
+mod common;
+
+use common::{own_sheet, read};
+use pool::check::answer as check;
+use pool::random::Random;
+use pool::refusal::Refusal;
+use pool::sample::any_plan;
+
+/// The bytes allowed at each offset of a sheet with m instruments and n teams.
+fn allowed(m: u8, n: u8) -> Vec<Vec<u8>> {
+    let any: Vec<u8> = (0..=255).collect();
+    let part: Vec<u8> = (0..n).collect();
+    let holder: Vec<u8> = part.iter().copied().chain([0xff]).collect();
+    let mut row = vec![vec![0x11], vec![m], vec![n], any.clone()];
+    for item in 0..m {
+        row.extend([vec![0x12], vec![item], holder.clone()]);
+    }
+    row.push(vec![0x13]);
+    row.extend(set_bytes(m));
+    for team in 0..n {
+        row.extend([vec![0x14], vec![team], any.clone()]);
+        row.extend(set_bytes(m));
+        for item in 0..m {
+            row.extend([vec![0x15], vec![item], part.clone()]);
+        }
+    }
+    row.push(vec![0x16]);
+    row
+}
+
+/// The bytes allowed in a set of instruments below m.
+fn set_bytes(m: u8) -> Vec<Vec<u8>> {
+    let bit_fits = |byte: u8, at: u8, bit: u8| byte >> bit & 1 == 0 || 8 * at + bit < m;
+    let fits = |at: u8, byte: &u8| (0..8).all(|bit| bit_fits(*byte, at, bit));
+    let bytes = (0..8).map(|at| (0..=255).filter(|byte| fits(at, byte)).collect());
+    bytes.collect()
+}
+
+#[test]
+fn every_byte_against_the_list() {
+    let mut random = Random::new(201);
+    for (m, n) in [(0, 1), (0, 12), (1, 1), (5, 2), (8, 3), (9, 12), (64, 2)] {
+        let file = any_plan(&mut random, m, n);
+        let sheet = own_sheet(&file);
+        let row = allowed(m as u8, n as u8);
+        assert_eq!(row.len(), sheet.len());
+        for (at, bytes) in row.iter().enumerate() {
+            for value in 0..=255 {
+                let mut other = sheet.clone();
+                other[at] = value;
+                let verdict = check(&file, &other);
+                let fault = Refusal::new(12, at).code();
+                assert_eq!(verdict == fault, !bytes.contains(&value), "{at} {value}");
+                assert!(verdict == fault || verdict >> 16 != 12);
+            }
+        }
+    }
+}
+
+#[test]
+fn the_first_of_two_faults_decides() {
+    let mut random = Random::new(202);
+    let file = any_plan(&mut random, 6, 3);
+    let row = allowed(6, read(&file).teams.len() as u8);
+    let sheet = own_sheet(&file);
+    for _ in 0..20_000 {
+        let mut other = sheet.clone();
+        for _ in 0..random.between(2, 5) {
+            other[random.below(sheet.len())] = random.byte();
+        }
+        let mut bytes = other.iter().zip(&row);
+        let first = bytes.position(|(byte, allowed)| !allowed.contains(byte));
+        let verdict = check(&file, &other);
+        match first {
+            Some(at) => assert_eq!(verdict, Refusal::new(12, at).code()),
+            None => assert_ne!(verdict >> 16, 12),
+        }
+    }
+}

@@ -1,0 +1,302 @@
+//! The proved library against this crate, on the same bytes.
+#![cfg(proved)]
+
+mod common;
+
+use common::*;
+use pool::build::{contents, divide};
+use pool::check::layout_of;
+use pool::family::FAMILIES;
+use pool::random::Random;
+use pool::sample::any_plan;
+use pool::writer::{plan_a, PlanWriter};
+use pool::{build, check, ffi};
+
+/// Bytes before and after a lent buffer that must stay as they are.
+const GUARD: usize = 40;
+
+/// The pattern a buffer is filled with beforehand.
+fn pattern(length: usize, salt: u8) -> Vec<u8> {
+    let bytes = 0..length;
+    bytes
+        .map(|at| (at as u8).wrapping_mul(37).wrapping_add(salt))
+        .collect()
+}
+
+/// Calls the proved Build on a buffer of this length between guards. Tests the answer
+/// and every byte that must stay; hands back the sheet, if one was written.
+fn proved_build(file: &[u8], length: usize, salt: u8) -> Option<Vec<u8>> {
+    let before = pattern(length + 2 * GUARD, salt);
+    let mut memory = before.clone();
+    let answer = ffi::build(file, &mut memory[GUARD..GUARD + length]);
+    let mut scratch = vec![0; length];
+    let expected = build::answer(file, &mut scratch);
+    assert_eq!(answer, expected, "Build, {length} lent: {file:x?}");
+    let written = if answer < 65_536 { answer as usize } else { 0 };
+    assert_eq!(memory[..GUARD], before[..GUARD], "{file:x?}");
+    let after = GUARD + written;
+    assert_eq!(memory[after..], before[after..], "{length}: {file:x?}");
+    (answer < 65_536).then(|| memory[GUARD..after].to_vec())
+}
+
+/// Both checkers give the same verdict, and this is it.
+fn same_verdict(file: &[u8], sheet: &[u8]) -> u64 {
+    let own = check::answer(file, sheet);
+    let proved = ffi::check(file, sheet);
+    assert_eq!(proved, own, "Check of {sheet:x?} by {file:x?}");
+    own
+}
+
+/// Total and shares as a sheet states them.
+fn stated(file: &[u8], sheet: &[u8]) -> Vec<u8> {
+    let layout = layout_of(&read(file));
+    let shares = (0..layout.teams).map(|team| sheet[layout.share(team) + 2]);
+    std::iter::once(sheet[3]).chain(shares).collect()
+}
+
+/// Both sheets are accepted by both checkers and state the same.
+fn same_sheets(file: &[u8], more: usize, salt: u8) {
+    let own = own_sheet(file);
+    let proved = proved_build(file, own.len() + more, salt).expect("a sheet");
+    assert_eq!(same_verdict(file, &own), 0, "{file:x?}");
+    assert_eq!(same_verdict(file, &proved), 0, "{file:x?}");
+    assert_eq!(stated(file, &own), stated(file, &proved), "{file:x?}");
+}
+
+/// A random plan of at most this size.
+fn some_plan(random: &mut Random, instruments: usize, teams: usize) -> Vec<u8> {
+    let m = random.below(instruments + 1);
+    let n = random.between(1, teams);
+    any_plan(random, m, n)
+}
+
+#[test]
+fn every_size() {
+    let mut random = Random::new(101);
+    for m in 0..=64 {
+        for n in 1..=12 {
+            let file = any_plan(&mut random, m, n);
+            same_sheets(&file, random.below(3), random.byte());
+        }
+    }
+}
+
+#[test]
+fn every_family() {
+    let mut random = Random::new(102);
+    for family in FAMILIES {
+        for n in 1..=12 {
+            same_sheets(&(family.plan)(&mut random, 64, n), 0, 1);
+        }
+    }
+}
+
+#[test]
+fn small_plans() {
+    let mut random = Random::new(103);
+    for _ in 0..cases() {
+        let file = some_plan(&mut random, 8, 4);
+        same_sheets(&file, random.below(3), random.byte());
+    }
+}
+
+#[test]
+fn large_plans() {
+    let mut random = Random::new(104);
+    for _ in 0..cases() / 100 {
+        let m = random.between(48, 64);
+        let n = random.between(8, 12);
+        same_sheets(&any_plan(&mut random, m, n), 0, 7);
+    }
+}
+
+/// Any bytes as a plan: Build without a buffer and Check without a sheet tell all
+/// of Read's refusals.
+fn same_reading(file: &[u8], tally: &mut Tally) {
+    assert!(proved_build(file, 0, 3).is_none());
+    let verdict = same_verdict(file, &[]);
+    tally.count(verdict);
+}
+
+#[test]
+fn damaged_plans() {
+    let mut random = Random::new(105);
+    let mut tally = Tally::default();
+    let mut last = plan_a();
+    for round in 0..cases() {
+        let most = if round % 16 == 0 { 64 } else { 6 };
+        let file = some_plan(&mut random, most, 12);
+        same_reading(&damage(&mut random, &file, &last), &mut tally);
+        same_reading(&damage_commands(&mut random, &file), &mut tally);
+        same_reading(&loose_commands(&mut random), &mut tally);
+        last = file;
+    }
+    tally.seen((1..=9).chain([11]));
+}
+
+#[test]
+fn every_byte_of_small_plans() {
+    let mut random = Random::new(106);
+    let mut tally = Tally::default();
+    let mut files = vec![plan_a(), vec![], vec![0x01]];
+    files.extend((0..12).map(|_| some_plan(&mut random, 5, 4)));
+    for file in files {
+        for at in 0..file.len() {
+            same_reading(&file[..at], &mut tally);
+            for value in 0..=255 {
+                let mut other = file.clone();
+                other[at] = value;
+                same_reading(&other, &mut tally);
+            }
+        }
+    }
+}
+
+#[test]
+fn any_bytes() {
+    let mut random = Random::new(107);
+    let mut tally = Tally::default();
+    for _ in 0..cases() {
+        let most = random.pick(&[4, 30, 200]);
+        let length = random.below(most);
+        let file: Vec<u8> = (0..length).map(|_| random.byte() & 15).collect();
+        same_reading(&file, &mut tally);
+        let plan = some_plan(&mut random, 3, 2);
+        let size = layout_of(&read(&plan)).length();
+        let sheet: Vec<u8> = (0..size).map(|_| random.byte()).collect();
+        same_verdict(&plan, &sheet);
+    }
+    same_reading(&vec![0x01; 70_000], &mut tally);
+    same_reading(&[plan_a(), vec![0x07; 70_000]].concat(), &mut tally);
+    same_verdict(&plan_a(), &vec![0x11; 70_000]);
+}
+
+/// The six instruments of appendix D.
+fn six_instruments() -> Vec<u8> {
+    let mut plan = PlanWriter::start(6);
+    plan.caps(6).class(0, 1).class(1, 1).class(2, 2);
+    plan.put(0, 0).put(1, 0).put(2, 1).put(3, 1);
+    plan.put(4, 2).put(5, 2).caps(6).class(0, 6);
+    for item in 0..6 {
+        plan.put(item, 0);
+    }
+    plan.end()
+}
+
+#[test]
+fn every_byte_of_small_sheets() {
+    let mut random = Random::new(108);
+    let mut tally = Tally::default();
+    let empty = PlanWriter::start(0).caps(0).end();
+    let mut files = vec![plan_a(), empty, six_instruments()];
+    files.extend((0..9).map(|_| some_plan(&mut random, 9, 3)));
+    for file in files {
+        let sheet = own_sheet(&file);
+        for at in 0..sheet.len() {
+            for value in 0..=255 {
+                let mut other = sheet.clone();
+                other[at] = value;
+                tally.count(same_verdict(&file, &other));
+            }
+        }
+    }
+    tally.seen([0, 12, 13, 14, 15].into_iter());
+}
+
+#[test]
+fn damaged_fields() {
+    let mut random = Random::new(109);
+    let mut tally = Tally::default();
+    for round in 0..cases() / 4 {
+        let most = if round % 50 == 0 { 64 } else { 8 };
+        let file = some_plan(&mut random, most, 12);
+        let layout = layout_of(&read(&file));
+        let sheet = own_sheet(&file);
+        for _ in 0..8 {
+            let mut other = sheet.clone();
+            for _ in 0..random.between(1, 4) {
+                damage_field(&mut random, layout, &mut other);
+            }
+            tally.count(same_verdict(&file, &other));
+        }
+    }
+    tally.seen([0, 13, 14, 15, 16].into_iter());
+}
+
+#[test]
+fn damaged_large_sheets() {
+    let mut random = Random::new(110);
+    let mut tally = Tally::default();
+    for _ in 0..cases() / 500 {
+        let m = random.between(32, 64);
+        let file = any_plan(&mut random, m, 12);
+        let sheet = own_sheet(&file);
+        let proved = proved_build(&file, sheet.len(), 9).expect("a sheet");
+        for _ in 0..100 {
+            let other = damage(&mut random, &sheet, &proved);
+            tally.count(same_verdict(&file, &other));
+            let mut mixed = sheet.clone();
+            let at = random.below(sheet.len());
+            mixed[at..].copy_from_slice(&proved[at..]);
+            tally.count(same_verdict(&file, &mixed));
+        }
+    }
+    tally.seen([0, 11, 12].into_iter());
+}
+
+#[test]
+fn sheets_of_another_plan() {
+    let mut random = Random::new(111);
+    let mut tally = Tally::default();
+    for _ in 0..cases() / 2 {
+        let m = random.below(6);
+        let n = random.between(1, 3);
+        let file = any_plan(&mut random, m, n);
+        let other = any_plan(&mut random, m, n);
+        tally.count(same_verdict(&file, &own_sheet(&other)));
+    }
+    tally.seen([0, 13, 14, 15].into_iter());
+}
+
+#[test]
+fn greatest_total_alone() {
+    let mut random = Random::new(112);
+    let mut tally = Tally::default();
+    for _ in 0..cases() / 2 {
+        let file = some_plan(&mut random, 16, 5);
+        let plan = read(&file);
+        let mut found = contents(&plan);
+        found.bundles = divide(&plan, &vec![0; plan.teams.len()]).bundles;
+        let verdict = same_verdict(&file, &found.bytes(plan.instruments));
+        tally.count(verdict);
+    }
+    tally.seen([0, 16].into_iter());
+}
+
+#[test]
+fn lent_buffers_of_every_length() {
+    let mut random = Random::new(113);
+    for _ in 0..40 {
+        let file = some_plan(&mut random, 5, 3);
+        let most = layout_of(&read(&file)).length() + 20;
+        for length in 0..=most {
+            proved_build(&file, length, random.byte());
+            proved_build(&damage(&mut random, &file, &[]), length, 5);
+        }
+    }
+}
+
+#[test]
+fn lent_buffers_around_the_length() {
+    let mut random = Random::new(114);
+    for _ in 0..cases() / 1000 {
+        let m = random.between(40, 64);
+        let file = any_plan(&mut random, m, 12);
+        let exact = layout_of(&read(&file)).length();
+        for length in [0, 1, exact - 1, exact, exact + 1, exact + 5000] {
+            if let Some(sheet) = proved_build(&file, length, random.byte()) {
+                assert_eq!(same_verdict(&file, &sheet), 0);
+            }
+        }
+    }
+}
