@@ -76,7 +76,8 @@ static void print_wrong_share(const struct subject *subject)
     fprintf(subject->out, "The SHARE of team %zu (byte %zu) states the share %u, which is not proved. ", subject->place,
             sheet_share(subject->shape, subject->place), share);
     fprintf(subject->out,
-            "One of the parts (n = %zu) is worth less than %u to the team, or the set does not rule out a greater share.",
+            "One of the parts (n = %zu) is worth less than %u to the team, "
+            "or the set does not rule out a greater share.",
             subject->shape.teams, share);
 }
 

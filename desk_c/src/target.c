@@ -11,7 +11,7 @@
 /* Room for the longest path of a directory. */
 #define DIRECTORY_ROOM 4096
 
-/* Opens the directory that a path leads to, the present one if it names none; answers -1 with errno set if it cannot. */
+/* Opens the directory a path leads to, the present one if it names none; answers -1 with errno set if it cannot. */
 static int open_directory(const char *path, const char *name)
 {
     char directory[DIRECTORY_ROOM] = ".";

@@ -11,7 +11,7 @@ pub struct Family {
 }
 
 /// The families of the benchmark.
-pub const FAMILIES: [Family; 9] = [
+pub const FAMILIES: [Family; 10] = [
     Family {
         name: "dense loops, 6 joints",
         plan: |random, m, n| loops_on(random, m, n, 6),
@@ -47,6 +47,10 @@ pub const FAMILIES: [Family; 9] = [
     Family {
         name: "one team takes all",
         plan: one_takes_all,
+    },
+    Family {
+        name: "shares use up all",
+        plan: tight_shares,
     },
 ];
 
@@ -109,7 +113,7 @@ fn row_of_places(order: &[usize], teams: usize) -> Vec<u8> {
         let places = (team..order.len()).step_by(teams);
         for (class, place) in places.take(16).enumerate() {
             let neighbours = order.iter().skip(place).take(width);
-            row_place(&mut plan, even, class as u8, neighbours);
+            one_place(&mut plan, even, class as u8, neighbours);
         }
     }
     plan.end()
@@ -122,17 +126,17 @@ fn shuffled_chains(random: &mut Random, instruments: usize, teams: usize) -> Vec
     row_of_places(&order, teams)
 }
 
-/// One place of the row: a class or a pair of joints that takes one instrument.
-fn row_place<'a>(
+/// A class of cap 1, or a pair of joints: a place that takes one of these instruments.
+fn one_place<'a>(
     plan: &mut PlanWriter,
     caps: bool,
     class: u8,
-    neighbours: impl Iterator<Item = &'a usize>,
+    items: impl Iterator<Item = &'a usize>,
 ) {
     if caps {
         plan.class(class, 1);
     }
-    for &item in neighbours {
+    for &item in items {
         if caps {
             plan.put(item, class);
         } else {
@@ -154,6 +158,31 @@ fn one_takes_all(random: &mut Random, instruments: usize, teams: usize) -> Vec<u
         for item in 0..instruments {
             let (a, b) = two_joints(random, 7);
             plan.span(item, a, b);
+        }
+    }
+    plan.end()
+}
+
+/// The shares add up to all usable instruments. The first team takes any of them, each
+/// other one at most one of each of its classes (or pairs of joints), dealt at random.
+fn tight_shares(random: &mut Random, instruments: usize, teams: usize) -> Vec<u8> {
+    let classes = (instruments / teams).min(16);
+    let mut usable: Vec<usize> = (0..classes * teams).collect();
+    let mut plan = PlanWriter::start(instruments);
+    plan.caps(255).class(0, 255);
+    for &item in &usable {
+        plan.put(item, 0);
+    }
+    for team in 1..teams {
+        let even = team & 1 == 0;
+        if even {
+            plan.caps(255);
+        } else {
+            plan.loops(255);
+        }
+        random.shuffle(&mut usable);
+        for (class, members) in usable.chunks(teams).enumerate() {
+            one_place(&mut plan, even, class as u8, members.iter());
         }
     }
     plan.end()

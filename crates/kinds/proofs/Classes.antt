@@ -1,8 +1,8 @@
 -- The loops over classes: the class words, the capped sum, and the classes with room.
-use Prim.Native.Nat.{ℕ, zero, suc, _+_, _≤_, _<_, min}
+use Prim.Native.Nat.{ℕ, _+_, _≤_, _<_, min}
 use mathlib.Core.Path.{_≡_, refl, sym, ap, _∙_, subst, subst⁻¹, fun-ext}
 use mathlib.Core.Bool.{Bool, true, false, _&&_, _||_, or-true, or-false}
-use mathlib.Core.Logic.{_↔_, _≢_, inl, inr}
+use mathlib.Core.Logic.{_≢_, inl, inr}
 use mathlib.Core.List.{List}
 use native.Mathlib.Omega.{arith}
 use native.Mathlib.Numerals.{add-one}
@@ -13,9 +13,7 @@ use lib.Seq.{getD-set-same, getD-set-other}
 use lib.Pow.{pow-pos}
 use borrow.Author.Tests.{lt-ltb, le-ltb, eq-eqb, ne-eqb}
 use Rattle.matroid.specs.Taut.{or-cases, follows₂}
-use Rattle.matroid.specs.Decide.{below-suc}
 use Rattle.matroid.specs.Set.{_∪_, _∩_, with, size}
-use Rattle.matroid.specs.Sum.{sum}
 use Rattle.sets.specs.Bits.{bit}
 use Rattle.sets.specs.Words.{bit-high}
 use Rattle.kinds.specs.ClassWords.{ClassWords, inWord, cappedSum, Room}
@@ -88,22 +86,26 @@ room-none words cap set = record { at = λ j. (λ t. absurd (subst T (bit-none j
 
 module _ (words cap : List ℕ) (set n r : ℕ) (h : Room words cap set n r) where
   pub room-take : (next : ℕ) → inWord words set n < getD cap n 0 → ((j : ℕ) → bit next j ≡ (bit r ∪ bit (getD words n 0)) j) → Room words cap set (n + 1) next
-  room-take next fewer is = record { at = λ j. (
-    λ t. elim (or-cases (bit r j) (bit (getD words n 0) j) (subst T (is j) t)) [
-      | inl old ↦ let (c, l, rest) = h .at j .0 old in (c, omega arith, rest)
-      | inr new ↦ (n, omega arith, (fewer, new))
-    ],
-    λ (c, l, rest). subst⁻¹ T (is j) (elim (ℕ-discrete c n) [
-      | yes e ↦ follows₂ (λ a b. b) (λ a b. a || b) tt (bit r j) (bit (getD words n 0) j) (subst (λ (c : ℕ). T (bit (getD words c 0) j)) e (rest .1))
-      | no d ↦ follows₂ (λ a b. a) (λ a b. a || b) tt (bit r j) (bit (getD words n 0) j) (h .at j .1 (c, omega arith, rest))
-    ]),
-  ) }
+  room-take next fewer is = record {
+    at = λ j. (
+      λ t. elim (or-cases (bit r j) (bit (getD words n 0) j) (subst T (is j) t)) [
+        | inl old ↦ let (c, l, rest) = h .at j .0 old in (c, omega arith, rest)
+        | inr new ↦ (n, omega arith, (fewer, new))
+      ],
+      λ (c, l, rest). subst⁻¹ T (is j) (elim (ℕ-discrete c n) [
+        | yes e ↦ follows₂ (λ a b. b) (λ a b. a || b) tt (bit r j) (bit (getD words n 0) j) (subst (λ (c : ℕ). T (bit (getD words c 0) j)) e (rest .1))
+        | no d ↦ follows₂ (λ a b. a) (λ a b. a || b) tt (bit r j) (bit (getD words n 0) j) (h .at j .1 (c, omega arith, rest))
+      ]),
+    );
+  }
 
   pub room-skip : getD cap n 0 ≤ inWord words set n → Room words cap set (n + 1) r
-  room-skip full = record { at = λ j. (
-    λ t. let (c, l, rest) = h .at j .0 t in (c, omega arith, rest),
-    λ (c, l, rest). elim (ℕ-discrete c n) [
-      | yes e ↦ let fewer = subst (λ (c : ℕ). inWord words set c < getD cap c 0) e (rest .0) in absurd (omega arith)
-      | no d ↦ h .at j .1 (c, omega arith, rest)
-    ],
-  ) }
+  room-skip full = record {
+    at = λ j. (
+      λ t. let (c, l, rest) = h .at j .0 t in (c, omega arith, rest),
+      λ (c, l, rest). elim (ℕ-discrete c n) [
+        | yes e ↦ let fewer = subst (λ (c : ℕ). inWord words set c < getD cap c 0) e (rest .0) in absurd (omega arith)
+        | no d ↦ h .at j .1 (c, omega arith, rest)
+      ],
+    );
+  }

@@ -1,18 +1,17 @@
 -- What may join an independent set, as words.
-use Prim.Native.Nat.{ℕ, zero, suc, _+_, _≤_, _<_, min}
-use mathlib.Core.Path.{_≡_, refl, sym, ap, _∙_, subst, subst⁻¹, fun-ext}
-use mathlib.Core.Bool.{Bool, true, false, _&&_, _||_, not}
-use mathlib.Core.Logic.{_↔_, inl, inr, ⊎-elim}
+use Prim.Native.Nat.{ℕ, suc, _+_, _≤_, _<_, min}
+use mathlib.Core.Path.{_≡_, refl, ap, _∙_, subst, subst⁻¹, fun-ext}
+use mathlib.Core.Bool.{Bool, true, false, _&&_, not}
+use mathlib.Core.Logic.{_↔_, inl, inr}
 use mathlib.Core.List.{List}
 use native.Mathlib.Omega.{arith}
 use native.Mathlib.Decide.{ℕ-discrete}
 use lib.Dec.{T, eqb, eqb→eq, ltb, ltb→lt, lt→ltb}
-use lib.ListN.{length, getD}
+use lib.ListN.{getD}
 use lib.Pow.{pow-pos}
 use Rattle.matroid.specs.Taut.{both, and-left, and-right}
-use Rattle.matroid.specs.Decide.{below-suc}
-use Rattle.matroid.specs.Set.{Set, _∪_, _∩_, _∖_, with, size, eq→eqb, with-cases, with-new, with-old}
-use Rattle.matroid.specs.Sum.{sum, sum-same}
+use Rattle.matroid.specs.Set.{Set, _∩_, _∖_, with, size, eq→eqb, with-cases, with-new, with-old}
+use Rattle.matroid.specs.Sum.{sum-same}
 use Rattle.matroid.specs.Division.{bundle}
 use Rattle.matroid.specs.Matroid.{Matroid, worth}
 use Rattle.sets.specs.Bits.{bit}
@@ -52,40 +51,46 @@ module _ (N : Net) (A : Set) (m : ℕ) where
     test = rw (is-a, is-b) (apart-bridges N A m g label h)
 
     pub free-take : (next : ℕ) → apartTest label a b ≡ true → ((j : ℕ) → bit next j ≡ with (bit free) g j) → Free N A m (g + 1) next
-    free-take next t is = record { at = λ j. (
-      λ s. elim (with-cases (bit free) g j (subst T (is j) s)) [
-        | inl old ↦ (let l = f .at j .0 old .0 in omega arith, f .at j .0 old .1)
-        | inr e ↦ (omega arith, subst⁻¹ (Bridges N A m) e (test .0 (subst⁻¹ T t tt)))
-      ],
-      λ (l, bridge). subst⁻¹ T (is j) (elim (ℕ-discrete j g) [
-        | yes e ↦ subst⁻¹ (λ (x : ℕ). T (with (bit free) g x)) e (with-new (bit free) g)
-        | no d ↦ with-old {m = suc j} (bit free) g .at j (omega arith) (f .at j .1 (omega arith, bridge))
-      ]),
-    ) }
+    free-take next t is = record {
+      at = λ j. (
+        λ s. elim (with-cases (bit free) g j (subst T (is j) s)) [
+          | inl old ↦ (let l = f .at j .0 old .0 in omega arith, f .at j .0 old .1)
+          | inr e ↦ (omega arith, subst⁻¹ (Bridges N A m) e (test .0 (subst⁻¹ T t tt)))
+        ],
+        λ (l, bridge). subst⁻¹ T (is j) (elim (ℕ-discrete j g) [
+          | yes e ↦ subst⁻¹ (λ (x : ℕ). T (with (bit free) g x)) e (with-new (bit free) g)
+          | no d ↦ with-old {m = suc j} (bit free) g .at j (omega arith) (f .at j .1 (omega arith, bridge))
+        ]),
+      );
+    }
 
     pub free-skip : apartTest label a b ≡ false → Free N A m (g + 1) free
-    free-skip t = record { at = λ j. (
-      λ s. (let l = f .at j .0 s .0 in omega arith, f .at j .0 s .1),
-      λ (l, bridge). elim (ℕ-discrete j g) [
-        | yes e ↦ absurd (subst T t (test .1 (subst (Bridges N A m) e bridge)))
-        | no d ↦ f .at j .1 (omega arith, bridge)
-      ],
-    ) }
+    free-skip t = record {
+      at = λ j. (
+        λ s. (let l = f .at j .0 s .0 in omega arith, f .at j .0 s .1),
+        λ (l, bridge). elim (ℕ-discrete j g) [
+          | yes e ↦ absurd (subst T t (test .1 (subst (Bridges N A m) e bridge)))
+          | no d ↦ f .at j .1 (omega arith, bridge)
+        ],
+      );
+    }
 
 module _ (m channels : ℕ) (endA endB : ℕ → ℕ) (A : Set) where
   -- with a channel left, what joins two groups may join
   pub loops-gains : (free r : ℕ) → Free (net endA endB) A m m free → size m A < channels → ((j : ℕ) → bit r j ≡ (bit free ∖ A) j)
       → loopsMatroid m channels endA endB .Indep A → Gains (loopsMatroid m channels endA endB) A r
-  loops-gains free r f room is i = record { at = λ j. (
-    λ t.
-        let u = subst T (is j) t in
-        let (l, (s, d)) = f .at j .0 (and-left (bit free j) _ u) in
-        let out = and-right (bit free j) _ u in
-        (l, (out, loops-with m channels endA endB A j i l out .1 (record { spanned = s; apart = d; channel = room }))),
-    λ (l, (out, joins)).
-        let x = loops-with m channels endA endB A j i l out .0 joins in
-        subst⁻¹ T (is j) (both (bit free j) _ (f .at j .1 (l, (x .spanned, x .apart))) out),
-  ) }
+  loops-gains free r f room is i = record {
+    at = λ j. (
+      λ t.
+          let u = subst T (is j) t in
+          let (l, (s, d)) = f .at j .0 (and-left (bit free j) _ u) in
+          let out = and-right (bit free j) _ u in
+          (l, (out, loops-with m channels endA endB A j i l out .1 (record { spanned = s; apart = d; channel = room }))),
+      λ (l, (out, joins)).
+          let x = loops-with m channels endA endB A j i l out .0 joins in
+          subst⁻¹ T (is j) (both (bit free j) _ (f .at j .1 (l, (x .spanned, x .apart))) out),
+    );
+  }
 
   -- without one, nothing may
   pub loops-full : channels ≤ size m A → loopsMatroid m channels endA endB .Indep A → Gains (loopsMatroid m channels endA endB) A 0
@@ -132,16 +137,18 @@ module _ (m channels : ℕ) (small : m ≤ 64) (class : List ℕ) (cap : ℕ →
   pub caps-gains : (caps : List ℕ) (room r : ℕ) → ((c : ℕ) → cap c ≡ getD caps c 0) → Room words caps set 16 room → size m (bit set) < channels → ((j : ℕ) → bit r j ≡ (bit room ∖ bit set) j)
       → capsMatroid m channels classOf cap .Indep (bit set) → Gains (capsMatroid m channels classOf cap) (bit set) r
   unfolding classes
-  caps-gains caps room r eq h free is i = record { at = λ j. (
-    λ t.
-        let u = subst T (is j) t in
-        let (l, p, f) = room-iff caps room eq h j .0 (and-left (bit room j) _ u) in
-        let out = and-right (bit room j) _ u in
-        (l, (out, caps-with m channels classOf cap (bit set) j i l out .1 (record { placed = p; fewer = f; channel = free }))),
-    λ (l, (out, joins)).
-        let x = caps-with m channels classOf cap (bit set) j i l out .0 joins in
-        subst⁻¹ T (is j) (both (bit room j) _ (room-iff caps room eq h j .1 (l, x .placed, x .fewer)) out),
-  ) }
+  caps-gains caps room r eq h free is i = record {
+    at = λ j. (
+      λ t.
+          let u = subst T (is j) t in
+          let (l, p, f) = room-iff caps room eq h j .0 (and-left (bit room j) _ u) in
+          let out = and-right (bit room j) _ u in
+          (l, (out, caps-with m channels classOf cap (bit set) j i l out .1 (record { placed = p; fewer = f; channel = free }))),
+      λ (l, (out, joins)).
+          let x = caps-with m channels classOf cap (bit set) j i l out .0 joins in
+          subst⁻¹ T (is j) (both (bit room j) _ (room-iff caps room eq h j .1 (l, x .placed, x .fewer)) out),
+    );
+  }
 
   -- a set is worth what its words have, up to the caps and the channels
   pub caps-sum : (caps : List ℕ) → ((c : ℕ) → cap c ≡ getD caps c 0) → worth (capsMatroid m channels classOf cap) (bit set) ≡ min channels (cappedSum words caps set 16)

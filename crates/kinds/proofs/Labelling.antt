@@ -1,17 +1,17 @@
 -- The tables of labels of LOOPS: what each gauge changes, and which gauges join two groups.
-use Prim.Native.Nat.{ℕ, zero, suc, _+_, _≤_, _<_, min}
-use mathlib.Core.Path.{_≡_, refl, sym, ap, _∙_, subst}
-use mathlib.Core.Bool.{Bool, true, false, _&&_, not}
+use Prim.Native.Nat.{ℕ, suc, _+_, _<_}
+use mathlib.Core.Path.{_≡_, sym, ap, _∙_, subst}
+use mathlib.Core.Bool.{Bool, true, false, not}
 use mathlib.Core.Logic.{_≢_, _↔_, inl, inr}
 use mathlib.Core.List.{List}
 use native.Mathlib.Omega.{arith}
 use native.Mathlib.Numerals.{add-one}
 use lib.Dec.{T, eqb, ltb, ltb→lt, lt→ltb, T-not, not-T}
-use lib.ListN.{length, getD}
+use lib.ListN.{getD}
 use Rattle.matroid.specs.Taut.{decide-T, T→true, T→false, and-three}
 use Rattle.matroid.specs.Set.{Set, one, size, ne→eqb, eqb→ne}
 use Rattle.kinds.specs.Net.{Net, spans, spans-iff, joints}
-use Rattle.kinds.specs.Groups.{labels, relabel, Taken, Together, Bridges, no-bridge, labels-zero, labels-take, labels-skip, labels-within}
+use Rattle.kinds.specs.Groups.{labels, Bridges, no-bridge, labels-zero, labels-take, labels-skip, labels-within}
 use Rattle.kinds.specs.Labels.{Labelled, Relabelled, apartTest}
 use Rattle.kinds.specs.Accepted.{accepted, accepted-iff}
 
@@ -54,8 +54,10 @@ module _ (N : Net) (A : Set) where
     labelled-take next e t r =
         let (s, differ) = test .0 (subst T (sym t) tt) in
         let (la, lb, _) = spans-iff N g .0 s in
-        rw (add-one g) (record { at = λ j l.
-            r .at j l ∙ rw (is-a, is-b, h .at (endA g) la, h .at (endB g) lb, h .at j l) (sym (labels-take N A g j (subst T (sym e) tt, s))) })
+        rw (add-one g) (record {
+          at = λ j l.
+              r .at j l ∙ rw (is-a, is-b, h .at (endA g) la, h .at (endB g) lb, h .at j l) (sym (labels-take N A g j (subst T (sym e) tt, s)));
+        })
 
     -- a member that does not changes none
     pub labelled-within : A g ≡ true → apartTest label a b ≡ false → Labelled N A (g + 1) label

@@ -4,7 +4,7 @@ use mathlib.Core.Path.{_≡_}
 use mathlib.Core.Bool.{Bool, _&&_, not}
 use mathlib.Core.List.{List}
 use lib.Dec.{eqb, ltb}
-use lib.ListN.{length, getD}
+use lib.ListN.{getD}
 use Rattle.matroid.specs.Set.{Set}
 use Rattle.kinds.specs.Net.{Net}
 use Rattle.kinds.specs.Groups.{labels, relabel}

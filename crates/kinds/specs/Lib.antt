@@ -4,7 +4,6 @@ pub mod Trail
 pub mod Groups
 pub mod Loops
 pub mod Accepted
-pub mod Example
 pub mod ClassWords
 pub mod Labels
 pub mod Teams

@@ -50,7 +50,11 @@ pub fn team_at(teams: [Team; 12], n: usize, t: usize) -> Team
     requires { ⌜ n ≤ 12 ⌝ }
     ensures { λ r. ⌜ r ≡ teamAt teams n t ⌝ }
 {
-    if t < n { teams[t] } else { plan::carry::blank() }
+    if t < n {
+        teams[t]
+    } else {
+        plan::carry::blank()
+    }
 }
 
 // Worth, on the bytes of a plan: what a set is worth to a team of it.

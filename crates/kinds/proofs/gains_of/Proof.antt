@@ -1,4 +1,3 @@
-use mathlib.Core.Path.{_≡_, refl, sym, _∙_, ap}
 use Rattle.sets.specs.Bits.{bit}
 use Rattle.kinds.specs.Teams.{of-caps, of-loops, of-none}
 use Rattle.kinds.proofs.Joining.{none-gains}

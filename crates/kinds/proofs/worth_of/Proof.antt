@@ -1,5 +1,5 @@
-use mathlib.Core.Path.{_≡_, refl, sym, _∙_, ap}
-use Rattle.matroid.specs.Matroid.{Matroid, worth}
+use mathlib.Core.Path.{sym}
+use Rattle.matroid.specs.Matroid.{worth}
 use Rattle.sets.specs.Bits.{bit}
 use Rattle.kinds.specs.Teams.{of-caps, of-loops, of-none, none-worth}
 use borrow.Author.Needs.{needs}

@@ -1,8 +1,8 @@
-use Prim.Native.Nat.{ℕ, _≤_, _<_, _-_}
-use mathlib.Core.Path.{_≡_, refl, sym, _∙_}
+use Prim.Native.Nat.{_≤_, _-_}
+use mathlib.Core.Path.{_≡_}
 use mathlib.Core.Logic.{⊎-elim}
 use native.Mathlib.Omega.{arith}
-use lib.ListN.{length, getD}
+use lib.ListN.{length}
 use Rattle.plan.proofs.Lists.{getD-any}
 use Rattle.kinds.specs.ClassWords.{ClassWords}
 use Rattle.kinds.proofs.Classes.{words-none, words-skip, words-put}
@@ -47,13 +47,15 @@ loop-less : tie.Need-loop-less Inv-loop μ-loop
 loop-less c = search needs
 
 loop-again : tie.Need-loop-again Inv-loop μ-loop
-loop-again c = 
-        let wide : length (c .before .before .before .args .t1) ≡ 64 = search needs in
-        let is = getD-any (c .before .before .before .args .t1) (c .before .before .loop .g) 0 255 (omega arith) in
-        (search needs, ⊎-elim
-        (λ w. words-put _ _ (c .before .before .loop .words) (c .before .before .loop .inv .1) _ _ _ is (w .0 .taken) (w .1 .ensures) (w .2))
-        (λ w. rw (w .1) (words-skip _ _ (c .before .before .loop .words) (c .before .before .loop .inv .1) (rw is at (w .0 .left))))
-        (c .if1 .came))
+loop-again c =
+    let wide : length (c .before .before .before .args .t1) ≡ 64 = search needs in
+    let is = getD-any (c .before .before .before .args .t1) (c .before .before .loop .g) 0 255 (omega arith) in (
+      search needs,
+      ⊎-elim
+          (λ w. words-put _ _ (c .before .before .loop .words) (c .before .before .loop .inv .1) _ _ _ is (w .0 .taken) (w .1 .ensures) (w .2))
+          (λ w. rw (w .1) (words-skip _ _ (c .before .before .loop .words) (c .before .before .loop .inv .1) (rw is at (w .0 .left))))
+          (c .if1 .came),
+    )
 
 returns : tie.Need-returns Inv-loop μ-loop
 returns c = let e : c .before .loop .g ≡ c .before .before .args .m = omega arith in rw e at (c .before .loop .inv .1)

@@ -1,7 +1,6 @@
 use lib.ListN.{getD}
 use Rattle.sets.specs.Bits.{bit}
-use mathlib.Core.Path.{_≡_, refl, sym, _∙_, ap}
-use native.Mathlib.Omega.{arith}
+use mathlib.Core.Path.{refl}
 use Rattle.kinds.proofs.Below.{below-size}
 use Rattle.kinds.proofs.Joining.{caps-gains, caps-full}
 use borrow.Author.Needs.{needs}

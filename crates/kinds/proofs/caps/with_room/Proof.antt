@@ -1,5 +1,5 @@
-use Prim.Native.Nat.{ℕ, _≤_, _<_, _-_}
-use mathlib.Core.Path.{_≡_, refl, sym, _∙_, ap}
+use Prim.Native.Nat.{_≤_, _-_}
+use mathlib.Core.Path.{_≡_}
 use mathlib.Core.Logic.{⊎-elim}
 use native.Mathlib.Omega.{arith}
 use Rattle.kinds.specs.ClassWords.{Room}
@@ -51,12 +51,14 @@ loop-less : tie.Need-loop-less Inv-loop μ-loop
 loop-less c = search needs
 
 loop-again : tie.Need-loop-again Inv-loop μ-loop
-loop-again c = 
-        let is = counted _ (c .before .before .before .before .before .args .t2) _ _ _ _ (c .before .before .both .ensures) (c .before .size .ensures) in
-        (omega arith, ⊎-elim
-        (λ w. rw (w .2) (room-take _ _ _ _ _ (c .before .before .before .before .loop .inv .1) _ (rw is at (w .0 .taken)) (w .1 .ensures)))
-        (λ w. rw (w .1) (room-skip _ _ _ _ _ (c .before .before .before .before .loop .inv .1) (rw is at (w .0 .left))))
-        (c .if1 .came))
+loop-again c =
+    let is = counted _ (c .before .before .before .before .before .args .t2) _ _ _ _ (c .before .before .both .ensures) (c .before .size .ensures) in (
+      omega arith,
+      ⊎-elim
+          (λ w. rw (w .2) (room-take _ _ _ _ _ (c .before .before .before .before .loop .inv .1) _ (rw is at (w .0 .taken)) (w .1 .ensures)))
+          (λ w. rw (w .1) (room-skip _ _ _ _ _ (c .before .before .before .before .loop .inv .1) (rw is at (w .0 .left))))
+          (c .if1 .came),
+    )
 
 returns : tie.Need-returns Inv-loop μ-loop
 returns c = let e : c .before .loop .c ≡ 16 = omega arith in rw e at (c .before .loop .inv .1)

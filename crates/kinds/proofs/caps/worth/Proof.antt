@@ -1,6 +1,6 @@
 use Prim.Native.Nat.{min}
 use lib.ListN.{getD}
-use mathlib.Core.Path.{_≡_, refl, sym, _∙_, ap}
+use mathlib.Core.Path.{refl, sym, _∙_, ap}
 use Rattle.kinds.proofs.Joining.{caps-sum}
 use borrow.Author.Needs.{needs}
 use Rattle.kinds.proofs.caps.worth.Statement.{statement}

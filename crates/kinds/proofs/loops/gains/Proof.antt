@@ -1,5 +1,5 @@
-use Prim.Native.Nat.{ℕ, _≤_, _<_, _-_}
-use mathlib.Core.Path.{_≡_, refl, sym, _∙_, ap}
+use Prim.Native.Nat.{_≤_, _-_}
+use mathlib.Core.Path.{_≡_, sym, _∙_}
 use mathlib.Core.Logic.{⊎-elim}
 use native.Mathlib.Omega.{arith}
 use lib.ListN.{length, getD}
@@ -58,15 +58,17 @@ loop-less : tie.Need-loop-less Inv-loop μ-loop
 loop-less c = search needs
 
 loop-again : tie.Need-loop-again Inv-loop μ-loop
-loop-again c = 
-        let lf : length (c .before .before .before .before .before .before .before .before .before .before .before .before .args .team .first) ≡ 64 = search needs in
-        let ls : length (c .before .before .before .before .before .before .before .before .before .before .before .before .args .team .second) ≡ 64 = search needs in
-        let a = getD-any (c .before .before .before .before .before .before .before .before .before .before .before .before .args .team .first) (c .before .before .before .loop .g) 0 255 (omega arith) in
-        let b = getD-any (c .before .before .before .before .before .before .before .before .before .before .before .before .args .team .second) (c .before .before .before .loop .g) 0 255 (omega arith) in
-        (search needs, ⊎-elim
-        (λ w. rw (w .2) (free-take _ _ _ (c .before .before .before .before .labels-of .result) (c .before .before .before .before .labels-of .ensures) _ _ (c .before .before .before .loop .inv .1) _ _ a b _ (sym (c .before .apart .ensures) ∙ w .0 .taken) (w .1 .ensures)))
-        (λ w. rw (w .1) (free-skip _ _ _ (c .before .before .before .before .labels-of .result) (c .before .before .before .before .labels-of .ensures) _ _ (c .before .before .before .loop .inv .1) _ _ a b (sym (c .before .apart .ensures) ∙ w .0 .left)))
-        (c .if2 .came))
+loop-again c =
+    let lf : length (c .before .before .before .before .before .before .before .before .before .before .before .before .args .team .first) ≡ 64 = search needs in
+    let ls : length (c .before .before .before .before .before .before .before .before .before .before .before .before .args .team .second) ≡ 64 = search needs in
+    let a = getD-any (c .before .before .before .before .before .before .before .before .before .before .before .before .args .team .first) (c .before .before .before .loop .g) 0 255 (omega arith) in
+    let b = getD-any (c .before .before .before .before .before .before .before .before .before .before .before .before .args .team .second) (c .before .before .before .loop .g) 0 255 (omega arith) in (
+      search needs,
+      ⊎-elim
+          (λ w. rw (w .2) (free-take _ _ _ (c .before .before .before .before .labels-of .result) (c .before .before .before .before .labels-of .ensures) _ _ (c .before .before .before .loop .inv .1) _ _ a b _ (sym (c .before .apart .ensures) ∙ w .0 .taken) (w .1 .ensures)))
+          (λ w. rw (w .1) (free-skip _ _ _ (c .before .before .before .before .labels-of .result) (c .before .before .before .before .labels-of .ensures) _ _ (c .before .before .before .loop .inv .1) _ _ a b (sym (c .before .apart .ensures) ∙ w .0 .left)))
+          (c .if2 .came),
+    )
 
 minus-requires : tie.Need-minus-requires Inv-loop μ-loop
 minus-requires c κs = search needs

@@ -1,5 +1,5 @@
-use Prim.Native.Nat.{ℕ, _≤_, _<_, _-_}
-use mathlib.Core.Path.{_≡_, refl, sym, _∙_}
+use Prim.Native.Nat.{_≤_, _<_, _-_}
+use mathlib.Core.Path.{_≡_, sym, _∙_}
 use mathlib.Core.Logic.{⊎-elim}
 use native.Mathlib.Omega.{arith}
 use lib.ListN.{length, getD}
@@ -58,21 +58,23 @@ loop-less : tie.Need-loop-less Inv-loop μ-loop
 loop-less c = search needs
 
 loop-again : tie.Need-loop-again Inv-loop μ-loop
-loop-again c = 
-        let l : c .before .before .before .loop .g < 64 = omega arith in
-        let lf : length (c .before .before .before .before .before .before .before .args .team .first) ≡ 64 = search needs in
-        let ls : length (c .before .before .before .before .before .before .before .args .team .second) ≡ 64 = search needs in
-        let a = getD-any (c .before .before .before .before .before .before .before .args .team .first) (c .before .before .before .loop .g) 0 255 (omega arith) in
-        let b = getD-any (c .before .before .before .before .before .before .before .args .team .second) (c .before .before .before .loop .g) 0 255 (omega arith) in
-        let h = c .before .before .before .loop .inv .1 in
-        let is = sym (c .before .member .ensures) in
-        (search needs, ⊎-elim
-        (λ w. labelled-take _ _ _ (c .before .before .before .loop .label) h _ _ a b _ (is ∙ w .0 .taken) (sym (w .1 .ensures) ∙ w .2 .taken) (rw (w .4) (w .3 .ensures)))
-        (λ v. ⊎-elim
-        (λ w. rw (w .3) (labelled-within _ _ _ (c .before .before .before .loop .label) h _ _ a b (is ∙ w .0 .taken) (sym (w .1 .ensures) ∙ w .2 .left)))
-        (λ w. rw (w .1) (labelled-out _ _ _ (c .before .before .before .loop .label) h _ _ a b (is ∙ w .0 .left)))
-        v)
-        (c .if1 .came))
+loop-again c =
+    let l : c .before .before .before .loop .g < 64 = omega arith in
+    let lf : length (c .before .before .before .before .before .before .before .args .team .first) ≡ 64 = search needs in
+    let ls : length (c .before .before .before .before .before .before .before .args .team .second) ≡ 64 = search needs in
+    let a = getD-any (c .before .before .before .before .before .before .before .args .team .first) (c .before .before .before .loop .g) 0 255 (omega arith) in
+    let b = getD-any (c .before .before .before .before .before .before .before .args .team .second) (c .before .before .before .loop .g) 0 255 (omega arith) in
+    let h = c .before .before .before .loop .inv .1 in
+    let is = sym (c .before .member .ensures) in (
+      search needs,
+      ⊎-elim
+          (λ w. labelled-take _ _ _ (c .before .before .before .loop .label) h _ _ a b _ (is ∙ w .0 .taken) (sym (w .1 .ensures) ∙ w .2 .taken) (rw (w .4) (w .3 .ensures)))
+          (λ v. ⊎-elim
+          (λ w. rw (w .3) (labelled-within _ _ _ (c .before .before .before .loop .label) h _ _ a b (is ∙ w .0 .taken) (sym (w .1 .ensures) ∙ w .2 .left)))
+          (λ w. rw (w .1) (labelled-out _ _ _ (c .before .before .before .loop .label) h _ _ a b (is ∙ w .0 .left)))
+          v)
+          (c .if1 .came),
+    )
 
 returns : tie.Need-returns Inv-loop μ-loop
 returns c = let e : c .before .loop .g ≡ c .before .before .before .before .before .args .m = omega arith in rw e at (c .before .loop .inv .1)

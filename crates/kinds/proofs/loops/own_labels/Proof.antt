@@ -6,8 +6,6 @@ use Rattle.kinds.proofs.Entries.{entries-more}
 use borrow.Author.Needs.{needs}
 use Rattle.kinds.proofs.loops.own_labels.Statement.{statement}
 use Rattle.kinds.proofs.loops.own_labels.Tie as tie
-use Rattle.kinds.proofs.loops.own_labels.Reads as reads
-use Rattle.kinds.proofs.loops.own_labels.Lts as lts
 
 abbrev Inv-loop : tie.InvT-loop
 Inv-loop label₀ j₀ label j = (j ≤ 64) × (length label ≡ 64) × ((k : ℕ) → k < j → getD label k 0 ≡ k)

@@ -1,5 +1,5 @@
-use Prim.Native.Nat.{ℕ, _≤_, _<_, _-_, min}
-use mathlib.Core.Path.{_≡_, refl, sym, _∙_, ap}
+use Prim.Native.Nat.{_≤_, _<_, _-_}
+use mathlib.Core.Path.{_≡_, refl, sym, _∙_}
 use mathlib.Core.Logic.{⊎-elim}
 use native.Mathlib.Omega.{arith}
 use lib.ListN.{length, getD}
@@ -66,25 +66,34 @@ loop-less : tie.Need-loop-less Inv-loop μ-loop
 loop-less c = search needs
 
 loop-again : tie.Need-loop-again Inv-loop μ-loop
-loop-again c = 
-        let l : c .before .before .before .loop .g < 64 = omega arith in
-        let lf : length (c .before .before .before .before .before .before .before .before .args .team .first) ≡ 64 = search needs in
-        let ls : length (c .before .before .before .before .before .before .before .before .args .team .second) ≡ 64 = search needs in
-        let a = getD-any (c .before .before .before .before .before .before .before .before .args .team .first) (c .before .before .before .loop .g) 0 255 (omega arith) in
-        let b = getD-any (c .before .before .before .before .before .before .before .before .args .team .second) (c .before .before .before .loop .g) 0 255 (omega arith) in
-        let h = c .before .before .before .loop .inv .1 in
-        let n = c .before .before .before .loop .inv .2 in
-        let is = sym (c .before .member .ensures) in
-        ⊎-elim
-        (λ w. (search needs, labelled-take _ _ _ (c .before .before .before .loop .label) h _ _ a b _ (is ∙ w .0 .taken) (sym (w .1 .ensures) ∙ w .2 .taken) (rw (w .4) (w .3 .ensures)),
-            w .5 ∙ counted-take _ _ _ (c .before .before .before .loop .label) h _ _ a b _ n (is ∙ w .0 .taken) (sym (w .1 .ensures) ∙ w .2 .taken)))
-        (λ v. ⊎-elim
-        (λ w. (search needs, rw (w .3) (labelled-within _ _ _ (c .before .before .before .loop .label) h _ _ a b (is ∙ w .0 .taken) (sym (w .1 .ensures) ∙ w .2 .left)),
-            w .4 ∙ counted-within _ _ _ (c .before .before .before .loop .label) h _ _ a b _ n (sym (w .1 .ensures) ∙ w .2 .left)))
-        (λ w. (search needs, rw (w .1) (labelled-out _ _ _ (c .before .before .before .loop .label) h _ _ a b (is ∙ w .0 .left)),
-            w .2 ∙ counted-out _ _ _ (c .before .before .before .loop .label) h _ _ a b _ n (is ∙ w .0 .left)))
-        v)
-        (c .if1 .came)
+loop-again c =
+    let l : c .before .before .before .loop .g < 64 = omega arith in
+    let lf : length (c .before .before .before .before .before .before .before .before .args .team .first) ≡ 64 = search needs in
+    let ls : length (c .before .before .before .before .before .before .before .before .args .team .second) ≡ 64 = search needs in
+    let a = getD-any (c .before .before .before .before .before .before .before .before .args .team .first) (c .before .before .before .loop .g) 0 255 (omega arith) in
+    let b = getD-any (c .before .before .before .before .before .before .before .before .args .team .second) (c .before .before .before .loop .g) 0 255 (omega arith) in
+    let h = c .before .before .before .loop .inv .1 in
+    let n = c .before .before .before .loop .inv .2 in
+    let is = sym (c .before .member .ensures) in
+    ⊎-elim
+    (λ w. (
+      search needs,
+      labelled-take _ _ _ (c .before .before .before .loop .label) h _ _ a b _ (is ∙ w .0 .taken) (sym (w .1 .ensures) ∙ w .2 .taken) (rw (w .4) (w .3 .ensures)),
+      w .5 ∙ counted-take _ _ _ (c .before .before .before .loop .label) h _ _ a b _ n (is ∙ w .0 .taken) (sym (w .1 .ensures) ∙ w .2 .taken),
+    ))
+    (λ v. ⊎-elim
+    (λ w. (
+      search needs,
+      rw (w .3) (labelled-within _ _ _ (c .before .before .before .loop .label) h _ _ a b (is ∙ w .0 .taken) (sym (w .1 .ensures) ∙ w .2 .left)),
+      w .4 ∙ counted-within _ _ _ (c .before .before .before .loop .label) h _ _ a b _ n (sym (w .1 .ensures) ∙ w .2 .left),
+    ))
+    (λ w. (
+      search needs,
+      rw (w .1) (labelled-out _ _ _ (c .before .before .before .loop .label) h _ _ a b (is ∙ w .0 .left)),
+      w .2 ∙ counted-out _ _ _ (c .before .before .before .loop .label) h _ _ a b _ n (is ∙ w .0 .left),
+    ))
+    v)
+    (c .if1 .came)
 
 returns : tie.Need-returns Inv-loop μ-loop
 returns c = let e : c .before .before .loop .g ≡ c .before .before .before .before .before .before .before .args .m = omega arith in let n = rw e at (c .before .before .loop .inv .2) in omega (arith, loops-worth (c .before .before .before .before .before .before .before .args .m) (c .before .before .before .before .before .before .before .args .team .channels) (λ i. getD (c .before .before .before .before .before .before .before .args .team .first) i 255) (λ i. getD (c .before .before .before .before .before .before .before .args .team .second) i 255) (bit (c .before .before .before .before .before .before .before .args .set)))
