@@ -15,4 +15,6 @@ pub mod Carry
 pub mod Chain
 pub mod Levels
 pub mod Closure
+pub mod Breadth
+pub mod Walk
 pub mod Example

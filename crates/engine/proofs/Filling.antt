@@ -1,0 +1,112 @@
+-- The loop of `fill`.
+use Prim.Native.Nat.{ℕ, _+_, _-_, _≤_, _<_}
+use mathlib.Core.Path.{_≡_, refl, sym, ap, _∙_, subst, subst⁻¹}
+use mathlib.Core.Bool.{Bool, true, false, _&&_, not}
+use mathlib.Core.Logic.{_⊎_, inl, inr}
+use mathlib.Core.List.{List}
+use native.Mathlib.Omega.{arith}
+use native.Mathlib.Decide.{decLt}
+use lib.Dec.{T, eqb, ltb, ltb→lt, lt→ltb, T-not, not-T}
+use lib.ListN.{length, getD, replicate, getD-replicate, List·getD-eq-default, length-replicate}
+use borrow.Author.Tests.{lt-ltb, le-ltb, ltb-false, ne-eqb}
+use Rattle.matroid.specs.Taut.{decide-T, T→false, both, and-left, and-right}
+use Rattle.matroid.specs.Set.{Set, none, _∖_, complement, under, size, Within, size-same, size-twice}
+use Rattle.matroid.specs.Sum.{sum, sum-same}
+use Rattle.matroid.specs.Matroid.{Matroid, worth, worth-same}
+use Rattle.matroid.specs.Division.{bundle}
+use Rattle.matroid.specs.Closure.{fill-certificate}
+use Rattle.sets.specs.Bits.{bit}
+use Rattle.plan.specs.declared.Team.{Team}
+use Rattle.holding.specs.declared.Holding.{Holding}
+use Rattle.holding.specs.Give.{holderOf, allInPool}
+use Rattle.holding.specs.Words.{Bundles, Pool}
+use Rattle.engine.specs.declared.Seats.{Seats}
+use Rattle.engine.specs.declared.search.Reached.{Reached}
+use Rattle.engine.specs.Seats.{seatOf, holder, Ready, Held}
+use Rattle.engine.specs.Search.{Outcome}
+use Rattle.engine.specs.Fill.{Seated, given, Full}
+
+-- the words of a holding's bundles are ready for a search
+pub ready-of : (s : Seats) (h : Holding) (words : List ℕ) → Held s h → Bundles h (h .m) words → Ready s (h .owner) words
+unfolding holderOf
+ready-of s h words held b = record {
+  small = held .small;
+  few = held .few;
+  teams-long = held .teams-long;
+  owner-long = held .owner-long;
+  sound = held .sound;
+  words = λ t l j. b .at t l j ∙ ap (λ (k : ℕ). ltb j k && eqb (holder (h .owner) j) t) (held .m);
+}
+
+-- nobody holds anything of an empty holding
+empty-holder : (g : ℕ) → _≡_ {A = ℕ} (getD (replicate 64 255) g 255) 255
+empty-holder g = elim (decLt g 64) [ yes l ↦ getD-replicate 64 g 255 255 l | no d ↦ List·getD-eq-default (replicate 64 255) 255 {n = g} (omega arith) ]
+
+pub held-empty : (s : Seats) (h : Holding) → Seated s → h ≡ allInPool (s .m) (s .n) → Held s h
+held-empty s h seated e = rw e (record {
+  m = refl;
+  n = refl;
+  small = seated .small;
+  few = seated .few;
+  teams-long = seated .teams-long;
+  owner-long = refl;
+  placed = λ g. inl (empty-holder g);
+  sound = λ t l. seatOf s t .part (record { at = λ g b x. absurd (subst T (nobody t g l) x) }) (seatOf s t .empty);
+})
+  where
+    nobody : (t g : ℕ) → t < s .n → bundle (holder (replicate 64 255)) t g ≡ false
+    nobody t g l = let few = seated .few in ap (λ (x : ℕ). eqb x t) (empty-holder g) ∙ ne-eqb 255 t (omega arith)
+
+-- what a failed search has reached bounds every total
+module _ (s : Seats) (h : Holding) (held : Held s h) (sources pool : ℕ) (is-sources : (j : ℕ) → bit sources j ≡ under (s .n) j) (is-pool : Pool h (h .m) pool)
+    (r : Reached) (out : Outcome s (h .owner) sources pool r) where
+  -- a target is in the pool
+  pub pool-end : T (bit pool (r .end)) → s .n ≤ holder (h .owner) (r .end)
+  unfolding holderOf
+  pool-end t =
+      let u = subst T (is-pool .at (r .end)) t in
+      let n = held .n in
+      let l = ltb-false (holder (h .owner) (r .end)) (h .n) (T→false (ltb (holder (h .owner) (r .end)) (h .n)) (and-right (ltb (r .end) (h .m)) _ u)) in
+      omega arith
+
+  pub fill-done : r .found ≡ false → (all k : ℕ) → ((j : ℕ) → bit all j ≡ under (s .m) j) → ((j : ℕ) → bit k j ≡ (bit all ∖ bit (r .trace .seen)) j) → Full s h k
+  unfolding given holderOf
+  fill-done none all k is-all is-k = record {
+    held = held;
+    low = λ g t. ltb→lt g (s .m) (subst T (is-all g) (and-left (bit all g) _ (subst T (is-k g) t)));
+    full =
+        let cert = fill-certificate (s .n) (seatOf s) (holder (h .owner)) R (held .sound) (out .closed none)
+            (λ t l. out .gains none t l (subst⁻¹ T (is-sources t) (lt→ltb t (s .n) l))) kept in
+        let outside = size-same (s .m) {A = complement (bit k)} {B = R} (record { at = λ g l. to-R g l }) (record { at = λ g l. from-R g l }) in
+        let worths = sum-same (s .n) (λ t. worth (seatOf s t) (complement R)) (λ t. worth (seatOf s t) (bit k))
+            (λ t _. worth-same (seatOf s t) {S = complement R} {S′ = bit k} (record { at = λ g l. to-k g l }) (record { at = λ g l. from-k g l })) in
+        omega arith;
+  }
+    where
+      R : Set
+      R = bit (r .trace .seen)
+
+      here : (g : ℕ) → g < s .m → bit k g ≡ not (R g)
+      here g l = is-k g ∙ ap (λ (b : Bool). b && not (R g)) (is-all g ∙ lt-ltb g (s .m) l)
+
+      to-k : (g : ℕ) → g < s .m → T (not (R g)) → T (bit k g)
+      to-k g l t = subst⁻¹ T (here g l) t
+
+      from-k : (g : ℕ) → g < s .m → T (bit k g) → T (not (R g))
+      from-k g l t = subst T (here g l) t
+
+      to-R : (g : ℕ) → g < s .m → T (not (bit k g)) → T (R g)
+      to-R g l t = elim (decide-T (R g)) [ inl y ↦ y | inr n ↦ absurd (T-not (bit k g) t (to-k g l n)) ]
+
+      from-R : (g : ℕ) → g < s .m → T (R g) → T (not (bit k g))
+      from-R g l t = not-T (bit k g) (λ b. T-not (R g) (from-k g l b) t)
+
+      kept : (g : ℕ) → g < s .m → T (R g) → holder (h .owner) g < s .n
+      kept g l t =
+          let clear = out .clear none g t in
+          let em = held .m in
+          let en = held .n in
+          elim (decLt (holder (h .owner) g) (s .n)) [
+            | yes b ↦ b
+            | no d ↦ absurd (T-not (bit pool g) clear (subst⁻¹ T (is-pool .at g) (both (ltb g (h .m)) _ (lt→ltb g (h .m) (omega arith)) (subst⁻¹ (λ (b : Bool). T (not b)) (le-ltb (holder (h .owner) g) (h .n) (omega arith)) tt))))
+          ]

@@ -1,0 +1,69 @@
+-- How a chain changes the sizes of the bundles.
+use Prim.Native.Nat.{ℕ, zero, suc, _+_, _-_, _≤_, _<_}
+use mathlib.Core.Path.{_≡_, refl, sym, ap, _∙_, subst}
+use mathlib.Core.Bool.{true, _&&_}
+use mathlib.Core.Logic.{_≢_}
+use mathlib.Core.List.{List, _∷_}
+use native.Mathlib.Omega.{arith}
+use native.Mathlib.Decide.{ℕ-discrete}
+use lib.Dec.{T, eqb}
+use Rattle.matroid.specs.Set.{Set, _∩_, _∖_, complement, one, one-eq, one-ne, size, size-le, size-within, within-refl, inter-left, none, size-none}
+use Rattle.matroid.specs.Sum.{sum, sum-add, sum-same, sum-le, sum-lt}
+use Rattle.matroid.specs.Carry.{carry, last, carry-size}
+use Rattle.matroid.specs.Division.{bundle, sum-bundles-le, sum-bundles-split}
+use Rattle.holding.specs.declared.Holding.{Holding}
+use Rattle.engine.specs.declared.Seats.{Seats}
+use Rattle.engine.specs.Seats.{holder, Held}
+use Rattle.engine.specs.Chains.{Advanced}
+use Rattle.engine.specs.Fill.{given}
+
+-- among the numbers below n, i is one, and none where it is not below n
+sum-out : (n i : ℕ) → n ≤ i → sum n (λ t. one (eqb i t)) ≡ 0
+sum-out zero i l = refl
+sum-out (suc n) i l = let below = sum-out n i (omega arith) in let here = one-ne i n (omega arith) in omega arith
+
+sum-in : (n i : ℕ) → i < n → sum n (λ t. one (eqb i t)) ≡ 1
+sum-in zero i l = absurd (omega arith)
+sum-in (suc n) i l = go (λ (b : i < n). sum-in n i b) (ℕ-discrete i n)
+  where
+    go : (i < n → sum n (λ t. one (eqb i t)) ≡ 1) → Dec (i ≡ n) → sum n (λ t. one (eqb i t)) + one (eqb i n) ≡ 1
+    go rest (yes e) = let below = sum-out n i (omega arith) in let here = one-eq i n e in omega arith
+    go rest (no d) = let below = rest (omega arith) in let here = one-ne i n d in omega arith
+
+-- the seats hold at most all instruments
+pub given-le : (s : Seats) (owner : List ℕ) → given s owner ≤ s .m
+unfolding given
+given-le s owner =
+    let split = sum-bundles-split (s .m) (s .n) (holder owner) none in
+    let inside = sum-bundles-le (s .m) (s .n) (holder owner) none in
+    let outside = sum-bundles-le (s .m) (s .n) (holder owner) (complement none) in
+    let nothing = size-none (s .m) in
+    let all = size-le (s .m) (complement none) in
+    omega arith
+
+module _ (s : Seats) (h after : Holding) (sources end : ℕ) (a : Advanced s h sources end after) where
+  abbrev D : ℕ → ℕ
+  D = holder (h .owner)
+
+  -- the source seat has one more, and who held the end has one fewer
+  pub size-after : (t : ℕ) → size (s .m) (bundle (holder (after .owner)) t) + one (eqb (D end) t) ≡ size (s .m) (bundle D t) + one (eqb (a .seat) t)
+  size-after t =
+      let c = carry-size (s .m) D (a .seat) (a .first) (a .rest) t (a .below) (a .distinct) in
+      let e = ap (λ (x : ℕ). one (eqb (D x) t)) (a .ends) in
+      let f = ap (λ (E : ℕ → ℕ). size (s .m) (bundle E t)) (a .moved) in
+      omega arith
+
+  given-sum : given s (after .owner) + sum (s .n) (λ t. one (eqb (D end) t)) ≡ given s (h .owner) + sum (s .n) (λ t. one (eqb (a .seat) t))
+  unfolding given
+  given-sum =
+      sym (sum-add (s .n) (λ t. size (s .m) (bundle (holder (after .owner)) t)) (λ t. one (eqb (D end) t)))
+      ∙ sum-same (s .n) (λ t. size (s .m) (bundle (holder (after .owner)) t) + one (eqb (D end) t)) (λ t. size (s .m) (bundle D t) + one (eqb (a .seat) t)) (λ t _. size-after t)
+      ∙ sum-add (s .n) (λ t. size (s .m) (bundle D t)) (λ t. one (eqb (a .seat) t))
+
+  -- a chain to the pool gives one more
+  pub given-more : s .n ≤ D end → given s (after .owner) ≡ given s (h .owner) + 1
+  given-more l = let g = given-sum in let i = sum-in (s .n) (a .seat) (a .team) in let o = sum-out (s .n) (D end) l in omega arith
+
+  -- a chain to a seat leaves as many given
+  pub given-same : D end < s .n → given s (after .owner) ≡ given s (h .owner)
+  given-same l = let g = given-sum in let i = sum-in (s .n) (a .seat) (a .team) in let o = sum-in (s .n) (D end) l in omega arith

@@ -1,0 +1,104 @@
+use Prim.Native.Nat.{ℕ, _≤_, _<_, _-_}
+use mathlib.Core.Path.{_≡_, refl, sym, _∙_, subst⁻¹}
+use mathlib.Core.Bool.{Bool, not}
+use mathlib.Core.List.{List, []}
+use mathlib.Core.Logic.{⊎-elim}
+use native.Mathlib.Omega.{arith}
+use lib.Dec.{T}
+use lib.ListN.{getD, getD-replicate}
+use Rattle.plan.specs.declared.Team.{Team}
+use Rattle.matroid.specs.Breadth.{Rooted, rooted-none, rooted-skip}
+use Rattle.sets.specs.Bits.{bit}
+use Rattle.engine.specs.Seats.{seatOf, holder, Ready}
+use Rattle.engine.proofs.Words.{roots-take, bit-none, seating}
+use borrow.Author.Needs.{needs}
+use Rattle.engine.proofs.search.roots.Statement.{statement}
+use Rattle.engine.proofs.search.roots.Tie as tie
+use Rattle.engine.proofs.search.roots.Reads as reads
+use Rattle.engine.proofs.search.roots.Lts as lts
+use Rattle.engine.proofs.search.assigned.Reads as assigned-reads
+use Rattle.kinds.proofs.gains_of.Reads as gains-of-reads
+use Rattle.sets.proofs.either.Reads as either-reads
+use Rattle.sets.proofs.member.Reads as member-reads
+use Rattle.sets.proofs.minus.Reads as minus-reads
+
+-- what stands past the end of an array of teams
+abbrev filler : Team
+filler = record { kind = 0; channels = 0; cap = []; class = []; first = []; second = [] }
+
+abbrev Inv-loop : tie.InvT-loop
+Inv-loop sources bundles m n teams seen₀ to₀ t₀ seen to t = (t ≤ n) × ((owner : List ℕ) → Ready (seating m n teams) owner bundles → Rooted n (seatOf (seating m n teams)) (holder owner) (bit sources) t (bit seen) (λ x. getD to x 0))
+
+abbrev μ-loop : tie.MeasureT-loop
+μ-loop sources bundles m n teams seen₀ to₀ t₀ seen to t = n - t
+
+loop-holds : tie.Need-loop-holds Inv-loop μ-loop
+loop-holds c = (search needs, λ owner ready. rooted-none _ _ _ _ _ _ bit-none)
+
+member-requires : tie.Need-member-requires Inv-loop μ-loop
+member-requires c κs = search needs
+
+mul-team : tie.Need-mul-team Inv-loop μ-loop
+mul-team c = omega (arith, c .before .before .before .before .before .pre .few)
+
+array-copy-out-team : tie.Need-array-copy-out-team Inv-loop μ-loop
+array-copy-out-team c = omega (arith, c .before .before .before .before .before .pre .few)
+
+mul-gains-of : tie.Need-mul-gains-of Inv-loop μ-loop
+mul-gains-of c = omega (arith, c .before .before .before .before .before .before .pre .few)
+
+array-read-gains-of : tie.Need-array-read-gains-of Inv-loop μ-loop
+array-read-gains-of c = omega (arith, c .before .before .before .before .before .before .pre .few)
+
+gains-of-requires : tie.Need-gains-of-requires Inv-loop μ-loop
+gains-of-requires c κs = c .before .before .before .before .before .before .pre .small
+
+minus-requires : tie.Need-minus-requires Inv-loop μ-loop
+minus-requires c κs = search needs
+
+cast-assigned : tie.Need-cast-assigned Inv-loop μ-loop
+cast-assigned c = omega (arith, c .before .before .before .before .before .before .before .before .pre .few)
+
+assigned-requires : tie.Need-assigned-requires Inv-loop μ-loop
+assigned-requires c κs = search needs
+
+either-requires : tie.Need-either-requires Inv-loop μ-loop
+either-requires c κs = search needs
+
+add-t : tie.Need-add-t Inv-loop μ-loop
+add-t c = search needs
+
+loop-less : tie.Need-loop-less Inv-loop μ-loop
+loop-less c = search needs
+
+loop-again : tie.Need-loop-again Inv-loop μ-loop
+loop-again c = (search needs, λ owner ready. ⊎-elim
+        (λ w. rw (w .6, w .7) (roots-take (c .before .before .before .before .before .args .s) owner _ ready _ _ _ _ _ _ (c .before .before .before .loop .to) (w .4 .result) (getD (c .before .before .before .before .before .args .s .teams) (c .before .before .before .loop .t) filler) filler (c .before .before .loop-test .taken) (ready .teams-long) refl (c .before .before .before .loop .inv .1 owner ready)
+            (sym (c .before .member .ensures) ∙ w .0 .taken) (w .2 .ensures) (w .3 .ensures) (w .4 .ensures) (w .5 .ensures)))
+        (λ w. rw (w .1, w .2) (rooted-skip _ _ _ _ _ _ _ (c .before .before .before .loop .inv .1 owner ready) (subst⁻¹ (λ (b : Bool). T (not b)) (sym (c .before .member .ensures) ∙ w .0 .left) tt)))
+        (c .if1 .came))
+
+returns : tie.Need-returns Inv-loop μ-loop
+returns c = let e : c .before .loop .t ≡ c .before .before .before .args .s .n = omega arith in record { rooted = rw e at (c .before .loop .inv .1 _ (c .before .before .before .pre)); apart = λ x l. getD-replicate 64 x 255 0 l }
+
+pub roots-spec : {M : Type 1} → statement M
+roots-spec =
+    tie.close
+    (tie.spec
+    Inv-loop
+    μ-loop
+    loop-holds
+    member-requires
+    mul-team
+    array-copy-out-team
+    mul-gains-of
+    array-read-gains-of
+    gains-of-requires
+    minus-requires
+    cast-assigned
+    assigned-requires
+    either-requires
+    add-t
+    loop-less
+    loop-again
+    returns)

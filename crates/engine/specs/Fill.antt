@@ -1,0 +1,32 @@
+-- What filling the seats comes to.
+use Prim.Native.Nat.{ℕ, _+_, _≤_, _<_}
+use mathlib.Core.Path.{_≡_}
+use mathlib.Core.List.{List}
+use lib.Dec.{T}
+use lib.ListN.{length}
+use Rattle.matroid.specs.Set.{complement, size}
+use Rattle.matroid.specs.Sum.{sum}
+use Rattle.matroid.specs.Matroid.{worth}
+use Rattle.matroid.specs.Division.{bundle}
+use Rattle.sets.specs.Bits.{bit}
+use Rattle.holding.specs.declared.Holding.{Holding}
+use Rattle.engine.specs.declared.Seats.{Seats}
+use Rattle.engine.specs.Seats.{seatOf, holder, Held}
+
+-- at most 64 instruments and 1 to 12 seats
+pub record Seated (s : Seats) : Type 0 where
+  pub small : s .m ≤ 64
+  pub some : 1 ≤ s .n
+  pub few : s .n ≤ 12
+  pub teams-long : length (s .teams) ≡ 12
+
+-- how many instruments the seats hold
+unfoldable pub given : Seats → List ℕ → ℕ
+given s owner = sum (s .n) (λ t. size (s .m) (bundle (holder owner) t))
+
+-- Every bundle is independent, and the seats hold as many as the set K allows: (instruments outside K) + sum of v(K). So no division has a
+-- larger total.
+pub record Full (s : Seats) (h : Holding) (k : ℕ) : Type 0 where
+  pub held : Held s h
+  pub low : (g : ℕ) → T (bit k g) → g < s .m
+  pub full : given s (h .owner) ≡ size (s .m) (complement (bit k)) + sum (s .n) (λ t. worth (seatOf s t) (bit k))

@@ -1,0 +1,5 @@
+pub mod Seats
+pub mod Search
+pub mod Chains
+pub mod Fill
+pub mod Level

@@ -1,0 +1,34 @@
+// Fill: chains from any seat to the pool, until none is left.
+ghost use Prim.Native.Nat.{_≤_};
+ghost use Rattle.engine.specs.Fill.{Seated, Full};
+use super::Seats;
+use super::chains::moves_back;
+use super::search::search;
+use holding::Holding;
+
+// A holding of greatest total, and the set that bounds every total.
+pub struct Filled {
+    pub holding: Holding,
+    pub bound: u64,
+}
+
+// A holding of greatest total among the seats, with its certificate.
+pub fn fill(s: Seats) -> Filled
+    requires { ⌜ Seated s ⌝ }
+    ensures { λ r. ⌜ Full s (r .holding) (r .bound) ⌝ }
+{
+    let m = s.m;
+    let sources = sets::all_below(s.n);
+    let mut h = Holding::empty(m, s.n);
+    loop {
+        let owner = h.owner;
+        let r = search(s, owner, h.bundles(), sources, h.pool());
+        let trace = r.trace;
+        let end = r.end;
+        if !r.found {
+            let bound = sets::minus(sets::all_below(m), trace.seen);
+            return Filled { holding: h, bound };
+        }
+        h = h.chain(moves_back(trace, end));
+    }
+}

@@ -1,0 +1,143 @@
+// Breadth-first search over exchanges, from what source seats can gain to a target instrument.
+ghost use mathlib.Core.Path.{_≡_};
+ghost use Prim.Native.Nat.{_≤_, _<_};
+ghost use Rattle.sets.specs.Bits.{bit};
+ghost use Rattle.engine.specs.Seats.{seatOf, Ready};
+ghost use Rattle.engine.specs.Search.{Assigned, Rooting, Marked, Exchanges, Rest, Outcome};
+use super::Seats;
+use plan::Team;
+
+// What a search has reached: the instruments, the one each was reached from (255: a source can gain it), and the seat that gets it.
+pub struct Trace {
+    pub seen: u64,
+    pub parent: [u8; 64],
+    pub to: [u8; 64],
+}
+
+// How a search ends: with a chain's end, or with nothing more to reach.
+pub struct Reached {
+    pub found: bool,
+    pub end: usize,
+    pub trace: Trace,
+}
+
+// The table with seat t at each of the fresh instruments.
+fn assigned(mut to: [u8; 64], fresh: u64, t: u8) -> [u8; 64]
+    ensures { λ r. ⌜ Assigned to fresh t 64 r ⌝ }
+{
+    for x in 0..64usize {
+        if sets::member(fresh, x) {
+            to[x] = t;
+        }
+    }
+    to
+}
+
+// What the source seats can gain, each with a seat that can gain it.
+fn roots(s: Seats, owner: [u8; 64], bundles: [u64; 12], sources: u64) -> Trace
+    requires { ⌜ Ready s owner bundles ⌝ }
+    ensures { λ r. ⌜ Rooting s owner sources (s .n) r ⌝ }
+{
+    let m = s.m;
+    let n = s.n;
+    let teams = s.teams;
+    let mut seen: u64 = 0;
+    let mut to = [255u8; 64];
+    for t in 0..n {
+        if sets::member(sources, t) {
+            let team = teams[t];
+            let free = kinds::gains_of(team, m, bundles[t]);
+            let fresh = sets::minus(free, seen);
+            let next = assigned(to, fresh, t as u8);
+            to = next;
+            seen = sets::either(seen, free);
+        }
+    }
+    Trace {
+        seen,
+        parent: [255u8; 64],
+        to,
+    }
+}
+
+impl Trace {
+    // x is reached from g, and seat t gets it.
+    fn marked(mut self, x: usize, g: usize, t: u8) -> Trace
+        requires { ⌜ (x < 64) × (g < 64) ⌝ }
+        ensures { λ r. ⌜ Marked self x g t r ⌝ }
+    {
+        self.seen = sets::with(self.seen, x);
+        self.parent[x] = g as u8;
+        self.to[x] = t;
+        self
+    }
+}
+
+// The instruments not seen yet that can take the place of g in a bundle.
+fn exchanges(team: Team, m: usize, bundle: u64, g: usize, seen: u64) -> u64
+    requires { ⌜ (m ≤ 64) × (g < 64) ⌝ }
+    ensures { λ r. ⌜ Exchanges m team bundle g seen r ⌝ }
+{
+    let free = kinds::gains_of(team, m, sets::without(bundle, g));
+    sets::minus(sets::minus(free, bundle), seen)
+}
+
+// What is left of the level that is being scanned or, where nothing is, the next level.
+fn rest(todo: u64, seen: u64, scanned: u64) -> u64
+    ensures { λ r. ⌜ Rest todo seen scanned r ⌝ }
+{
+    if sets::lowest(todo) < 64 {
+        todo
+    } else {
+        sets::minus(seen, scanned)
+    }
+}
+
+// Searches breadth-first from the source seats to a target: the reached instruments are scanned level by level, each against all
+// instruments, held and unheld, and the scan is left with the chain's end as soon as a target is reached.
+pub fn search(s: Seats, owner: [u8; 64], bundles: [u64; 12], sources: u64, target: u64) -> Reached
+    requires { ⌜ Ready s owner bundles ⌝ }
+    ensures { λ r. ⌜ Outcome s owner sources target r ⌝ }
+{
+    let m = s.m;
+    let n = s.n;
+    let teams = s.teams;
+    let mut trace = roots(s, owner, bundles, sources);
+    let hit = sets::lowest(sets::both(trace.seen, target));
+    if hit < 64 {
+        return Reached { found: true, end: hit, trace };
+    }
+    let mut scanned: u64 = 0;
+    let mut todo = trace.seen;
+    let mut end: usize = 64;
+    'scan: loop {
+        todo = rest(todo, trace.seen, scanned);
+        let g = sets::lowest(todo);
+        if g >= 64 {
+            break;
+        }
+        let mut fresh: u64 = 0;
+        let t = owner[g];
+        let seat = t as usize;
+        if seat < n {
+            let team = teams[seat];
+            fresh = exchanges(team, m, bundles[seat], g, trace.seen);
+        }
+        for x in 0..m {
+            if sets::member(fresh, x) {
+                trace = trace.marked(x, g, t);
+                if sets::member(target, x) {
+                    end = x;
+                    break 'scan;
+                }
+            }
+        }
+        scanned = sets::with(scanned, g);
+        todo = sets::without(todo, g);
+    }
+    Reached {
+        found: end < 64,
+        end,
+        trace,
+    }
+}

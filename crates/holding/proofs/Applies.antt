@@ -1,0 +1,112 @@
+-- What a chain of moves that fit comes to.
+use Prim.Native.Nat.{ℕ, zero, suc, _≤_, _<_}
+use mathlib.Core.Path.{_≡_, refl, sym, _∙_}
+use mathlib.Core.Bool.{Bool, true, false, _||_, cond, or-true}
+use mathlib.Core.Logic.{_⊎_, inl, inr, _≢_}
+use native.Mathlib.Omega.{arith}
+use native.Mathlib.Decide.{ℕ-discrete}
+use lib.Dec.{eqb}
+use lib.ListN.{length, getD, set}
+use lib.Seq.{getD-set-same, getD-set-other}
+use borrow.Author.Tests.{lt-ltb, le-leb, eq-eqb, ne-eqb}
+use Rattle.holding.specs.declared.Holding.{Holding}
+use Rattle.holding.specs.declared.Moves.{Moves}
+use Rattle.holding.specs.Give.{holderOf, isInstrument, isTeam, withOwner}
+use Rattle.holding.specs.Chain.{itemAt, teamOf, mayMove, earlier, firstFit, movesFit, moved, carriedOut, chained}
+use Rattle.holding.proofs.Carried.{moved-long}
+
+-- A chain leaves m, n and the length of the list of owners.
+pub chain-m : (h : Holding) (moves : Moves) → chained h moves .m ≡ h .m
+unfolding chained
+chain-m h moves = go (movesFit h moves)
+  where
+    go : (b : Bool) → cond b (carriedOut h moves) h .m ≡ h .m
+    go true = refl
+    go false = refl
+
+pub chain-n : (h : Holding) (moves : Moves) → chained h moves .n ≡ h .n
+unfolding chained
+chain-n h moves = go (movesFit h moves)
+  where
+    go : (b : Bool) → cond b (carriedOut h moves) h .n ≡ h .n
+    go true = refl
+    go false = refl
+
+pub chain-long : (h : Holding) (moves : Moves) → length (chained h moves .owner) ≡ length (h .owner)
+unfolding chained
+chain-long h moves = go (movesFit h moves)
+  where
+    go : (b : Bool) → length (cond b (carriedOut h moves) h .owner) ≡ length (h .owner)
+    go true = moved-long (h .owner) moves (moves .count)
+    go false = refl
+
+-- the moves fit a holding: instruments, teams, places, and no instrument twice
+pub record Fit (h : Holding) (moves : Moves) : Type 0 where
+  pub few : moves .count ≤ 64
+  pub item : (k : ℕ) → k < moves .count → itemAt moves k < h .m
+  pub team : (k : ℕ) → k < moves .count → teamOf moves k < h .n
+  pub place : (k : ℕ) → k < moves .count → (holderOf h (itemAt moves k) ≡ 255) ⊎ (holderOf h (itemAt moves k) < h .n)
+  pub once : (j k : ℕ) → j < k → k < moves .count → itemAt moves j ≢ itemAt moves k
+
+-- an instrument that none of the first k moves has is not found among them
+pub earlier-none : (moves : Moves) (k x : ℕ) → ((j : ℕ) → j < k → itemAt moves j ≢ x) → earlier moves k x ≡ false
+unfolding earlier
+earlier-none moves zero x d = refl
+earlier-none moves (suc k) x d = rw (earlier-none moves k x (λ j l. d j (omega arith)), ne-eqb x (itemAt moves k) (λ e. d k (omega arith) (sym e))) refl
+
+-- a place that is the pool or a team
+placed : (h : Holding) (p : ℕ) → h .n ≤ 12 → (p ≡ 255) ⊎ (p < h .n) → (eqb p 255 || isTeam h p) ≡ true
+unfolding isTeam
+placed h p few (inl e) = rw (eq-eqb p 255 e) refl
+placed h p few (inr l) = rw (lt-ltb p (h .n) l, lt-ltb p 255 (omega arith)) (or-true (eqb p 255))
+
+module _ (h : Holding) (moves : Moves) (small : h .m ≤ 64) (few : h .n ≤ 12) (fit : Fit h moves) where
+  -- each move fits
+  each : (k : ℕ) → k < moves .count → mayMove h (itemAt moves k) (teamOf moves k) ≡ true
+  unfolding mayMove isInstrument isTeam
+  each k l =
+      let i = fit .item k l in
+      let t = fit .team k l in
+      rw (lt-ltb (itemAt moves k) (h .m) i, lt-ltb (itemAt moves k) 64 (omega arith), lt-ltb (teamOf moves k) (h .n) t, lt-ltb (teamOf moves k) 255 (omega arith)) (placed h (holderOf h (itemAt moves k)) few (fit .place k l))
+
+  -- and so do the first k of them
+  first : (k : ℕ) → k ≤ moves .count → firstFit h moves k ≡ true
+  unfolding firstFit
+  first zero l = refl
+  first (suc k) l = rw (first k (omega arith), each k (omega arith), earlier-none moves k (itemAt moves k) (λ j s. fit .once j k s (omega arith))) refl
+
+  -- such moves are carried out
+  pub chain-applies : chained h moves ≡ withOwner h (moved (h .owner) moves (moves .count))
+  unfolding chained movesFit
+  chain-applies = rw (le-leb (moves .count) 64 (fit .few), first (moves .count) (omega arith)) refl
+
+  module _ (long : length (h .owner) ≡ 64) (x : ℕ) where
+    -- an instrument that none of the first k moves has stays
+    stays : (k : ℕ) → ((j : ℕ) → j < k → itemAt moves j ≢ x) → getD (moved (h .owner) moves k) x 255 ≡ getD (h .owner) x 255
+    unfolding moved
+    stays zero d = refl
+    stays (suc k) d = getD-set-other (moved (h .owner) moves k) (itemAt moves k) x (teamOf moves k) 255 (λ e. d k (omega arith) (sym e)) ∙ stays k (λ j l. d j (omega arith))
+
+    -- the instrument of move k goes to its team, and later moves leave it there
+    goes : (n k : ℕ) → n ≤ moves .count → k < n → itemAt moves k ≡ x → getD (moved (h .owner) moves n) x 255 ≡ teamOf moves k
+    unfolding moved
+    goes zero k l s e = absurd (omega arith)
+    goes (suc n) k l s e = go (ℕ-discrete k n) (λ (s : k < n). goes n k (omega arith) s e)
+      where
+        go : Dec (k ≡ n) → (k < n → getD (moved (h .owner) moves n) x 255 ≡ teamOf moves k) → getD (set (moved (h .owner) moves n) (itemAt moves n) (teamOf moves n)) x 255 ≡ teamOf moves k
+        go (yes same) rest =
+            let below = fit .item n (omega arith) in
+            let wide = moved-long (h .owner) moves n in
+            rw (sym e, same) (getD-set-same (moved (h .owner) moves n) (itemAt moves n) (teamOf moves n) 255 (omega arith))
+        go (no less) rest =
+            getD-set-other (moved (h .owner) moves n) (itemAt moves n) x (teamOf moves n) 255 (λ d. fit .once k n (omega arith) (omega arith) (e ∙ d)) ∙ rest (omega arith)
+
+    -- an instrument that is moved is held by the team that gets it
+    pub chain-moved : (k : ℕ) → k < moves .count → itemAt moves k ≡ x → holderOf (chained h moves) x ≡ teamOf moves k
+    unfolding holderOf
+    chain-moved k l e = rw chain-applies (goes (moves .count) k (omega arith) l e)
+
+    -- any other keeps its place
+    pub chain-kept : ((k : ℕ) → k < moves .count → itemAt moves k ≢ x) → holderOf (chained h moves) x ≡ holderOf h x
+    unfolding holderOf
+    chain-kept d = rw chain-applies (stays (moves .count) d)

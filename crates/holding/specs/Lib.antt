@@ -1,0 +1,3 @@
+pub mod Give
+pub mod Chain
+pub mod Words

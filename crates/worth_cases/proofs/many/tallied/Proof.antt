@@ -1,0 +1,49 @@
+use Prim.Native.Nat.{_≤_, _-_}
+use borrow.Author.Needs.{needs}
+use Rattle.worth_cases.proofs.many.tallied.Statement.{statement}
+use Rattle.worth_cases.proofs.many.tallied.Tie as tie
+
+abbrev Inv-loop : tie.InvT-loop
+Inv-loop f count seed t₀ x₀ k₀ t x k = k ≤ count
+
+abbrev μ-loop : tie.MeasureT-loop
+μ-loop f count seed t₀ x₀ k₀ t x k = count - k
+
+loop-holds : tie.Need-loop-holds Inv-loop μ-loop
+loop-holds c = search needs
+
+drawn-requires : tie.Need-drawn-requires Inv-loop μ-loop
+drawn-requires c κs = search needs
+
+with-worth-requires : tie.Need-with-worth-requires Inv-loop μ-loop
+with-worth-requires c κs = search needs
+
+with-gains-requires : tie.Need-with-gains-requires Inv-loop μ-loop
+with-gains-requires c κs = search needs
+
+add-k : tie.Need-add-k Inv-loop μ-loop
+add-k c = search needs
+
+loop-less : tie.Need-loop-less Inv-loop μ-loop
+loop-less c = search needs
+
+loop-again : tie.Need-loop-again Inv-loop μ-loop
+loop-again c = search needs
+
+returns : tie.Need-returns Inv-loop μ-loop
+returns c = search needs
+
+pub tallied-spec : {M : Type 1} → statement M
+tallied-spec =
+    tie.close
+    (tie.spec
+    Inv-loop
+    μ-loop
+    loop-holds
+    drawn-requires
+    with-worth-requires
+    with-gains-requires
+    add-k
+    loop-less
+    loop-again
+    returns)

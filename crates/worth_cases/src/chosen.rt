@@ -1,0 +1,92 @@
+// The verb `team HEX`: a count of instruments, a kind, a set of eight bytes, and then commands as a plan has them, with any operands.
+ghost use Prim.Native.Nat.{_≤_};
+use crate::print;
+use crate::rule;
+use plan::Command;
+use plan::Team;
+
+// How many bytes a command has: at most four.
+fn width(command: Command) -> usize
+    ensures { λ r. ⌜ r ≤ 4 ⌝ }
+{
+    let w = plan::decode::width(command);
+    if w < 4 { w } else { 4 }
+}
+
+// The team that the commands after the tenth byte fill, by no rule but the tables' sizes.
+fn filled(bytes: &[u8]) -> Team {
+    let mut team = plan::carry::blank();
+    let mut at: usize = 10;
+    while at < bytes.len() {
+        let command = plan::decode::command_at(bytes, at);
+        let w = width(command);
+        if w == 0 {
+            return team;
+        }
+        team = plan::carry::changed_team(team, command);
+        at += w;
+    }
+    team
+}
+
+// The set of the third byte to the tenth, low byte first.
+fn set_of(bytes: &[u8]) -> u64 {
+    let mut set: u64 = 0;
+    for k in 0..8usize {
+        let byte = plan::decode::byte_at(bytes, 9 - k);
+        set = set << 8 | byte as u64;
+    }
+    set
+}
+
+// A count of instruments, and 64 where it is greater.
+fn count(byte: u8) -> usize
+    ensures { λ r. ⌜ r ≤ 64 ⌝ }
+{
+    if byte > 64 {
+        return 64;
+    }
+    byte as usize
+}
+
+// The worth, with a mark where the definition of a set of at most seven members says another.
+fn show_worth(team: Team, m: usize, set: u64)
+    requires { ⌜ m ≤ 64 ⌝ }
+{
+    let answer = kinds::worth_of(team, m, set);
+    print::marked(b"worth ", answer as u64);
+    if sets::size(rule::below(m, set)) < 8 {
+        if answer != rule::worth(team, m, set) {
+            print::text(b" DIFFERS");
+        }
+    }
+}
+
+// What an independent set gains, with a mark where the definition says another.
+fn show_gains(team: Team, m: usize, set: u64)
+    requires { ⌜ m ≤ 64 ⌝ }
+{
+    if !rule::independent(team, rule::below(m, set)) {
+        print::text(b", not independent");
+        return;
+    }
+    let answer = kinds::gains_of(team, m, set);
+    print::text(b", gains");
+    print::set(answer);
+    if answer != rule::gains(team, m, set) {
+        print::text(b" DIFFERS");
+    }
+}
+
+// Answers the verb.
+pub fn answer(hex: &[u8]) {
+    let mut space = io::buffer();
+    let k = lines::decode(hex, &mut space);
+    let bytes = &space[..k];
+    let m = count(plan::decode::byte_at(bytes, 0));
+    let set = set_of(bytes);
+    let mut team = filled(bytes);
+    team.kind = plan::decode::byte_at(bytes, 1);
+    show_worth(team, m, set);
+    show_gains(team, m, set);
+}

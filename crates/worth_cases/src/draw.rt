@@ -1,0 +1,163 @@
+// Random teams and sets. The numbers are those of Lehmer's generator; each function hands on the last number that it drew.
+ghost use Prim.Native.Nat.{_≤_, _<_};
+use plan::Team;
+
+// What each part of a case is drawn from: eight bytes for the kind, the count of instruments, the channels, a class, a cap and a joint.
+pub struct Family {
+    pub kinds: [u8; 8],
+    pub counts: [u8; 8],
+    pub channels: [u8; 8],
+    pub classes: [u8; 8],
+    pub caps: [u8; 8],
+    pub joints: [u8; 8],
+}
+
+// A table of bytes, and the last number drawn for it.
+struct Table {
+    bytes: [u8; 64],
+    x: u64,
+}
+
+// A set, and the last number drawn for it.
+struct Word {
+    set: u64,
+    x: u64,
+}
+
+// A team, a count of instruments and a set, and the last number drawn for them.
+pub struct Case {
+    pub team: Team,
+    pub m: usize,
+    pub set: u64,
+    pub x: u64,
+}
+
+// The number after x.
+pub fn next(x: u64) -> u64 {
+    x % 2147483647 * 48271 % 2147483647
+}
+
+// One of eight bytes.
+fn pick(x: u64, choice: [u8; 8]) -> u8 {
+    let k = (x / 256 % 8) as usize;
+    choice[k]
+}
+
+// A table of bytes, each one of eight.
+fn entries(x: u64, choice: [u8; 8]) -> Table {
+    let mut bytes = [0u8; 64];
+    let mut at = x;
+    for g in 0..64usize {
+        at = next(at);
+        bytes[g] = pick(at, choice);
+    }
+    Table { bytes, x: at }
+}
+
+// The first sixteen bytes of a table.
+fn front(bytes: [u8; 64]) -> [u8; 16] {
+    let mut part = [0u8; 16];
+    for c in 0..16usize {
+        part[c] = bytes[c];
+    }
+    part
+}
+
+// A case whose team is drawn, and whose count and set are not yet.
+fn filled(f: Family, x: u64) -> Case {
+    let kinds = f.kinds;
+    let channels = f.channels;
+    let joints = f.joints;
+    let classes = f.classes;
+    let caps = f.caps;
+    let class = entries(x, classes);
+    let first = entries(class.x, joints);
+    let second = entries(first.x, joints);
+    let cap = entries(second.x, caps);
+    let y = next(cap.x);
+    let z = next(y);
+    let class_bytes = class.bytes;
+    let first_bytes = first.bytes;
+    let second_bytes = second.bytes;
+    let cap_bytes = cap.bytes;
+    let team = Team {
+        kind: pick(y, kinds),
+        channels: pick(z, channels),
+        cap: front(cap_bytes),
+        class: class_bytes,
+        first: first_bytes,
+        second: second_bytes,
+    };
+    Case {
+        team,
+        m: 0,
+        set: 0,
+        x: z,
+    }
+}
+
+// A count of instruments: one of eight bytes, and 64 where that is greater.
+fn count(x: u64, choice: [u8; 8]) -> usize
+    ensures { λ r. ⌜ r ≤ 64 ⌝ }
+{
+    let byte = pick(x, choice);
+    if byte > 64 {
+        return 64;
+    }
+    byte as usize
+}
+
+// An instrument below m, and 0 where m is 0.
+fn place(x: u64, m: usize) -> usize
+    requires { ⌜ m ≤ 64 ⌝ }
+    ensures { λ r. ⌜ r < 64 ⌝ }
+{
+    if m == 0 {
+        return 0;
+    }
+    (x / 256) as usize % m
+}
+
+// Up to seven members, from as many as eleven draws.
+fn members(x: u64, m: usize) -> Word
+    requires { ⌜ m ≤ 64 ⌝ }
+{
+    let mut at = next(x);
+    let draws = at / 256 % 12;
+    let mut set: u64 = 0;
+    for k in 0..12u64 {
+        at = next(at);
+        if k < draws {
+            if sets::size(set) < 7 {
+                set = sets::with(set, place(at, m));
+            }
+        }
+    }
+    Word { set, x: at }
+}
+
+// All the bits of a word at or above m, or none.
+fn above(x: u64, m: usize) -> u64
+    requires { ⌜ m ≤ 64 ⌝ }
+{
+    if x / 256 % 2 == 0 {
+        return 0;
+    }
+    sets::minus(0xffff_ffff_ffff_ffff, sets::all_below(m))
+}
+
+// A case of a family, drawn after x. The set has at most seven members below m.
+pub fn drawn(f: Family, x: u64) -> Case
+    ensures { λ r. ⌜ r .m ≤ 64 ⌝ }
+{
+    let counts = f.counts;
+    let mut c = filled(f, x);
+    let y = next(c.x);
+    let m = count(y, counts);
+    let word = members(y, m);
+    let z = next(word.x);
+    c.m = m;
+    c.set = sets::either(word.set, above(z, m));
+    c.x = z;
+    c
+}

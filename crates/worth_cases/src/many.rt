@@ -1,0 +1,117 @@
+// The verb `many COUNT SEED ROWS`, with a seed from 1 on: that many random cases of a family, worth and gains beside the definition.
+ghost use Prim.Native.Nat.{_≤_, _<_};
+use crate::draw;
+use crate::draw::Case;
+use crate::draw::Family;
+use crate::print;
+use crate::rule;
+use std::num::wrapping_add_u64;
+
+// Of the cases so far: the worths added up, the instruments gained, and how many answers differ from the definition's.
+struct Tally {
+    worth: u64,
+    gains: u64,
+    differences: u64,
+}
+
+// The count of differences after one more answer: it grows where the definition says another.
+fn counted(differences: u64, answer: u64, defined: u64) -> u64 {
+    if answer == defined {
+        return differences;
+    }
+    wrapping_add_u64(differences, 1)
+}
+
+// The tally with a case's worth.
+fn with_worth(t: Tally, c: Case) -> Tally
+    requires { ⌜ c .m ≤ 64 ⌝ }
+{
+    let team = c.team;
+    let answer = kinds::worth_of(team, c.m, c.set) as u64;
+    let defined = rule::worth(team, c.m, c.set) as u64;
+    Tally {
+        worth: wrapping_add_u64(t.worth, answer),
+        gains: t.gains,
+        differences: counted(t.differences, answer, defined),
+    }
+}
+
+// The tally with the gains of an independent part of a case's set; what the set has at or above m stays.
+fn with_gains(t: Tally, c: Case) -> Tally
+    requires { ⌜ c .m ≤ 64 ⌝ }
+{
+    let team = c.team;
+    let m = c.m;
+    let above = sets::minus(c.set, sets::all_below(m));
+    let set = sets::either(rule::standing(team, m, c.set), above);
+    let answer = kinds::gains_of(team, m, set);
+    let defined = rule::gains(team, m, set);
+    Tally {
+        worth: t.worth,
+        gains: wrapping_add_u64(t.gains, sets::size(answer) as u64),
+        differences: counted(t.differences, answer, defined),
+    }
+}
+
+// The tally of so many cases of a family.
+fn tallied(f: Family, count: usize, seed: u64) -> Tally {
+    let mut t = Tally {
+        worth: 0,
+        gains: 0,
+        differences: 0,
+    };
+    let mut x = seed;
+    let mut k: usize = 0;
+    while k < count {
+        let c = draw::drawn(f, x);
+        t = with_gains(with_worth(t, c), c);
+        x = c.x;
+        k += 1;
+    }
+    t
+}
+
+// The row of eight bytes at a number.
+fn row(bytes: &[u8; 4096], k: usize) -> [u8; 8]
+    requires { ⌜ k < 8 ⌝ }
+{
+    let mut r = [0u8; 8];
+    for i in 0..8usize {
+        r[i] = bytes[k * 8 + i];
+    }
+    r
+}
+
+// The family whose rows these are.
+fn family(bytes: &[u8; 4096]) -> Family {
+    Family {
+        kinds: row(bytes, 0),
+        counts: row(bytes, 1),
+        channels: row(bytes, 2),
+        classes: row(bytes, 3),
+        caps: row(bytes, 4),
+        joints: row(bytes, 5),
+    }
+}
+
+// `COUNT cases, worth W, gains G, differences D`.
+fn show(count: usize, t: Tally) {
+    print::marked(b"", count as u64);
+    print::marked(b" cases, worth ", t.worth);
+    print::marked(b", gains ", t.gains);
+    print::marked(b", differences ", t.differences);
+}
+
+// Answers the verb. The rows are hexadecimal, in the order of a family's fields.
+pub fn answer(operands: &[u8]) {
+    let after = lines::rest(operands);
+    let count = lines::number(operands);
+    let seed = lines::number(after);
+    let mut space = io::buffer();
+    let k = lines::decode(lines::rest(after), &mut space);
+    if k != 48 {
+        print::text(b"SIX ROWS OF EIGHT BYTES");
+        return;
+    }
+    show(count, tallied(family(&space), count, seed as u64));
+}

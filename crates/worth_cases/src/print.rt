@@ -1,0 +1,22 @@
+// Standard output, piece by piece.
+use libc::STDOUT_FILENO;
+
+// Bytes as they are.
+pub fn text(bytes: &[u8]) {
+    io::write_all(STDOUT_FILENO, bytes);
+}
+
+// A number in decimal, after a mark such as a space.
+pub fn marked(mark: &[u8], n: u64) {
+    text(mark);
+    io::print_decimal(STDOUT_FILENO, n);
+}
+
+// The members of a set, rising, each after a space.
+pub fn set(s: u64) {
+    for g in 0..64usize {
+        if sets::member(s, g) {
+            marked(b" ", g as u64);
+        }
+    }
+}
