@@ -6,3 +6,5 @@ pub mod Advance
 pub mod Sizes
 pub mod Filling
 pub mod Leveling
+pub mod Sharing
+pub mod Dividing

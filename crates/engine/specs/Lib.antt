@@ -3,3 +3,5 @@ pub mod Search
 pub mod Chains
 pub mod Fill
 pub mod Level
+pub mod Share
+pub mod Divide

@@ -2,9 +2,11 @@
 use plan::Team;
 
 pub mod chains;
+pub mod divide;
 pub mod fill;
 pub mod level;
 pub mod search;
+pub mod share;
 
 // Who takes part: n seats, each a team with its own worth, among m instruments.
 pub struct Seats {

@@ -1,0 +1,34 @@
+-- What dividing comes to.
+use Prim.Native.Nat.{ℕ, _≤_, _<_}
+use mathlib.Core.Path.{_≡_}
+use mathlib.Core.List.{List, []}
+use lib.ListN.{length, getD}
+use Rattle.matroid.specs.Set.{size}
+use Rattle.matroid.specs.Division.{bundle}
+use Rattle.kinds.specs.Teams.{teamAt}
+use Rattle.engine.specs.declared.Seats.{Seats}
+use Rattle.engine.specs.declared.divide.Division.{Division}
+use Rattle.engine.specs.declared.share.Shared.{Shared}
+use Rattle.engine.specs.Seats.{holder}
+use Rattle.engine.specs.Fill.{Full}
+use Rattle.engine.specs.Share.{ShareOf}
+
+-- what stands past the end of a table of shares
+abbrev pub noShare : Shared
+noShare = record { share = 0; bound = 0; part = [] }
+
+-- the shares of the seats below k
+pub record AllShares (s : Seats) (k : ℕ) (r : List Shared) : Type 0 where
+  pub long : length r ≡ 12
+  pub at : (t : ℕ) → t < k → ShareOf (s .m) (s .n) (teamAt (s .teams) (s .n) t) (getD r t noShare)
+
+-- the shares below k as numbers
+pub record Targets (shares : List Shared) (k : ℕ) (r : List ℕ) : Type 0 where
+  pub long : length r ≡ 12
+  pub at : (t : ℕ) → t < k → getD r t 0 ≡ getD shares t noShare .share
+
+-- every bundle is independent, the total is greatest by the bound, each share is the seat's share, and no seat holds less
+pub record Divided (s : Seats) (r : Division) : Type 0 where
+  pub full : Full s (r .holding) (r .bound)
+  pub shares : AllShares s (s .n) (r .shares)
+  pub reached : (t : ℕ) → t < s .n → getD (r .shares) t noShare .share ≤ size (s .m) (bundle (holder (r .holding .owner)) t)

@@ -1,0 +1,59 @@
+// A team's maximin share: n seats of the same team are filled and levelled.
+ghost use Prim.Native.Nat.{_≤_};
+ghost use Rattle.engine.specs.Share.{Counted, Parted, ShareOf};
+use super::Seats;
+use super::fill::fill;
+use super::level::level;
+use holding::Holding;
+use plan::Team;
+
+// A share, the set that bounds it, and a cut into parts each worth the share.
+pub struct Shared {
+    pub share: u8,
+    pub bound: u64,
+    pub part: [u8; 64],
+}
+
+// How many instruments are not in the pool.
+fn count_given(h: Holding) -> usize
+    requires { ⌜ h .m ≤ 64 ⌝ }
+    ensures { λ r. ⌜ Counted h r ⌝ }
+{
+    let m = h.m;
+    let all = sets::all_below(m);
+    sets::size(sets::minus(all, h.pool()))
+}
+
+// A cut: what is in the pool joins part 0.
+fn parts(owner: [u8; 64], n: usize) -> [u8; 64]
+    ensures { λ r. ⌜ Parted owner n 64 r ⌝ }
+{
+    let mut part = [0u8; 64];
+    for g in 0..64usize {
+        let t = owner[g];
+        if (t as usize) < n {
+            part[g] = t;
+        }
+    }
+    part
+}
+
+// The share of a team among n, with its certificates.
+pub fn share_of(team: Team, m: usize, n: usize) -> Shared
+    requires { ⌜ (m ≤ 64) × (1 ≤ n) × (n ≤ 12) ⌝ }
+    ensures { λ r. ⌜ ShareOf m n team r ⌝ }
+{
+    let s = Seats {
+        m,
+        n,
+        teams: [team; 12],
+    };
+    let f = fill(s);
+    let h = f.holding;
+    let bound = f.bound;
+    let share = (count_given(h) / n) as u8;
+    let levelled = level(s, h, [share; 12]);
+    let owner = levelled.owner;
+    let part = parts(owner, n);
+    Shared { share, bound, part }
+}
