@@ -15,7 +15,7 @@ pub struct Shared {
 }
 
 // How many instruments are not in the pool.
-fn count_given(h: Holding) -> usize
+pub fn count_given(h: Holding) -> usize
     requires { ⌜ h .m ≤ 64 ⌝ }
     ensures { λ r. ⌜ Counted h r ⌝ }
 {

@@ -1,0 +1,58 @@
+-- The answers of `build`.
+use Prim.Native.Nat.{ℕ, _≤_, _<_}
+use mathlib.Core.Path.{_≡_, refl, sym, ap, _∙_, subst}
+use mathlib.Core.Bool.{not}
+use mathlib.Core.Logic.{_≢_}
+use mathlib.Core.List.{List}
+use lib.Dec.{eqb, ltb}
+use lib.ListN.{length, take}
+use borrow.Author.Tests.{eq-eqb, ne-eqb, lt-ltb, le-ltb}
+use Rattle.plan.specs.declared.Reading.{Reading}
+use Rattle.plan.specs.Read.{readPlan}
+use Rattle.plan.specs.Valid.{Valid}
+use Rattle.engine.specs.declared.Seats.{Seats}
+use Rattle.engine.specs.declared.divide.Division.{Division}
+use Rattle.engine.specs.Fill.{Seated}
+use Rattle.engine.specs.Share.{Counted}
+use Rattle.engine.specs.Divide.{Divided}
+use Rattle.sheet.specs.Layout.{lengthOf}
+use Rattle.checker.specs.declared.Verdict.{Verdict}
+use Rattle.checker.specs.Check.{verdictOf}
+use Rattle.checker.proofs.Acceptance.{accepts}
+use Rattle.builder.specs.declared.Built.{Built}
+use Rattle.builder.specs.declared.Built.the-variants.{Refused, Wrote}
+use Rattle.builder.specs.Rows.{Written}
+use Rattle.builder.specs.Build.{answerBy, buildAnswer, Answered, sheet}
+use Rattle.builder.proofs.Stating.{states, rest-same}
+
+-- the seats of an accepted reading
+pub seated-reading : (r : Reading) → Valid r → Seated (record { m = r .m; n = r .n; teams = r .teams })
+seated-reading r v = record { small = v .small; some = v .some; few = v .few; teams-long = v .teams-long }
+
+module _ (plan before : List ℕ) (r : Reading) (is : r ≡ readPlan plan) where
+  pub answer-read : r .refusal ≢ 0 → Refused (r .refusal) (r .place) ≡ buildAnswer plan before
+  unfolding answerBy
+  answer-read d =
+      let here : answerBy r (length before) ≡ Refused (r .refusal) (r .place) = rw (ne-eqb (r .refusal) 0 d, answerBy) refl in
+      sym here ∙ ap (λ (x : Reading). answerBy x (length before)) is
+
+  pub answer-short : r .refusal ≡ 0 → (long : ℕ) → long ≡ lengthOf (r .m) (r .n) → length before < long → Refused 10 long ≡ buildAnswer plan before
+  unfolding answerBy
+  answer-short z long e l =
+      let here : answerBy r (length before) ≡ Refused 10 long = rw (e, eq-eqb (r .refusal) 0 z, lt-ltb (length before) (lengthOf (r .m) (r .n)) (rw e at l), answerBy) refl in
+      sym here ∙ ap (λ (x : Reading). answerBy x (length before)) is
+
+  pub answer-wrote : r .refusal ≡ 0 → (long : ℕ) → long ≡ lengthOf (r .m) (r .n) → long ≤ length before → Wrote long ≡ buildAnswer plan before
+  unfolding answerBy
+  answer-wrote z long e l =
+      let here : answerBy r (length before) ≡ Wrote long = rw (e, eq-eqb (r .refusal) 0 z, le-ltb (length before) (lengthOf (r .m) (r .n)) (rw e at l), answerBy) refl in
+      sym here ∙ ap (λ (x : Reading). answerBy x (length before)) is
+
+  -- what is written is accepted
+  pub sheet-wrote : (valid : Valid r) → r .refusal ≡ 0 → (long : ℕ) → long ≡ lengthOf (r .m) (r .n) → long ≤ length before → (after : List ℕ) (total : ℕ) (d : Division)
+      → Written before after (r .m) (r .n) total d → Divided (record { m = r .m; n = r .n; teams = r .teams }) d → Counted (d .holding) total → Answered plan before after (Wrote long)
+  sheet-wrote valid z long e l after total d w div count =
+      let room = rw e at l in
+      rw e (sheet (lengthOf (r .m) (r .n)) (w .long) room
+      (ap (λ (x : Reading). verdictOf x (take (lengthOf (r .m) (r .n)) after)) (sym is) ∙ accepts r (take (lengthOf (r .m) (r .n)) after) (states r valid z before after total d w room div count))
+      (rest-same r valid z before after total d w room div count))

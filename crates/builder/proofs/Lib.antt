@@ -1,0 +1,5 @@
+pub mod Rowing
+pub mod Pages
+pub mod Digits
+pub mod Stating
+pub mod Answering

@@ -1,0 +1,57 @@
+use Prim.Native.Nat.{ℕ, _≤_}
+use mathlib.Core.Path.{_≡_, refl, sym, _∙_, subst⁻¹}
+use native.Mathlib.Omega.{arith}
+use denote.Ref.{now}
+use Rattle.plan.proofs.Bounds.{valid-reading}
+use Rattle.engine.proofs.Sizes.{given-le}
+use Rattle.engine.proofs.Sharing.{given-count}
+use Rattle.builder.specs.Build.{untouched}
+use Rattle.builder.proofs.Answering.{seated-reading, answer-read, answer-short, answer-wrote, sheet-wrote}
+use borrow.Author.Needs.{needs}
+use Rattle.builder.proofs.build.Statement.{statement}
+use Rattle.builder.proofs.build.Tie as tie
+
+read-requires : tie.Need-read-requires
+read-requires c κs = search needs
+
+returns : tie.Need-returns
+returns c = (answer-read _ (now (c .before .before .before .before .before .args .buffer)) _ (c .before .before .read .ensures) (c .if1 .taken), untouched _ _ refl)
+
+length-requires : tie.Need-length-requires
+length-requires c κs = let v = valid-reading _ _ (c .before .before .read .ensures) (c .if1 .left) in (v .small, v .few)
+
+returns-2 : tie.Need-returns-2
+returns-2 c = (answer-short _ (now (c .before .before .before .before .before .before .before .args .buffer)) _ (c .before .before .before .before .read .ensures) (c .before .before .if1 .left) _ (c .before .length .ensures) (c .if2 .taken), untouched _ _ refl)
+
+divide-requires : tie.Need-divide-requires
+divide-requires c κs = seated-reading _ (valid-reading _ _ (c .before .before .before .before .before .read .ensures) (c .before .before .before .if1 .left))
+
+count-given-requires : tie.Need-count-given-requires
+count-given-requires c κs = let v = valid-reading _ _ (c .before .before .before .before .before .before .before .read .ensures) (c .before .before .before .before .before .if1 .left) in let e = c .before .divide .ensures .full .held .m in omega (arith, v .small)
+
+cast-total : tie.Need-cast-total
+cast-total c = let v = valid-reading _ _ (c .before .before .before .before .before .before .before .before .read .ensures) (c .before .before .before .before .before .before .if1 .left) in let is = given-count _ _ _ (c .before .before .divide .ensures .full .held) (c .count-given .ensures) in let most : c .count-given .result ≤ c .before .before .before .before .before .before .before .before .read .result .m = subst⁻¹ (λ (x : ℕ). x ≤ c .before .before .before .before .before .before .before .before .read .result .m) is (given-le _ (c .before .before .divide .result .holding .owner)) in omega (arith, v .small)
+
+write-sheet-requires : tie.Need-write-sheet-requires
+write-sheet-requires c κs = let v = valid-reading _ _ (c .before .before .before .before .before .before .before .before .before .read .ensures) (c .before .before .before .before .before .before .before .if1 .left) in (omega (arith, c .before .before .before .before .before .if2 .left, c .before .before .before .before .before .before .length .ensures), v .small, v .few)
+
+same-length : tie.Need-same-length
+same-length c = search needs
+
+returns-3 : tie.Need-returns-3
+returns-3 c = let v = valid-reading _ _ (c .before .before .before .before .before .before .before .before .before .before .before .before .read .ensures) (c .before .before .before .before .before .before .before .before .before .before .if1 .left) in (answer-wrote _ (now (c .before .before .before .before .before .before .before .before .before .before .before .before .before .before .before .args .buffer)) _ (c .before .before .before .before .before .before .before .before .before .before .before .before .read .ensures) (c .before .before .before .before .before .before .before .before .before .before .if1 .left) _ (c .before .before .before .before .before .before .before .before .before .length .ensures) (c .before .before .before .before .before .before .before .before .if2 .left), sheet-wrote _ (now (c .before .before .before .before .before .before .before .before .before .before .before .before .before .before .before .args .buffer)) _ (c .before .before .before .before .before .before .before .before .before .before .before .before .read .ensures) v (c .before .before .before .before .before .before .before .before .before .before .if1 .left) _ (c .before .before .before .before .before .before .before .before .before .length .ensures) (c .before .before .before .before .before .before .before .before .if2 .left) _ _ (c .before .before .before .before .before .before .divide .result) (c .before .before .write-sheet .ensures) (c .before .before .before .before .before .before .divide .ensures) (c .before .before .before .before .count-given .ensures))
+
+pub build-spec : {M : Type 1} → statement M
+build-spec =
+    tie.close
+    (tie.spec
+    read-requires
+    returns
+    length-requires
+    returns-2
+    divide-requires
+    count-given-requires
+    cast-total
+    write-sheet-requires
+    same-length
+    returns-3)

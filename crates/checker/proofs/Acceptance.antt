@@ -1,0 +1,238 @@
+-- Check accepts a sheet exactly where the facts about its fields hold, and then what the sheet states is true.
+use Prim.Native.Nat.{ℕ, zero, suc, _+_, _*_, _≤_, _<_}
+use mathlib.Core.Path.{_≡_, refl, sym, ap, _∙_, subst}
+use mathlib.Core.Bool.{Bool, true, false, _&&_, not, cond, false≢true}
+use mathlib.Core.List.{List, [], _∷_}
+use native.Mathlib.Omega.{arith}
+use native.Mathlib.Nat.{lt-of-mul-lt-mul-left}
+use lib.Dec.{eqb, leb, ltb}
+use lib.ListN.{length}
+use borrow.Author.Tests.{lt-ltb, le-ltb, ltb-true, ltb-false, le-leb, leb-true, eq-eqb, eqb-true, not-false}
+use Rattle.matroid.specs.Set.{Set, _∩_, complement, size, within-refl, inter-left, inter-most, size-same}
+use Rattle.matroid.specs.Sum.{sum, sum-same, sum-const, sum-less}
+use Rattle.matroid.specs.Matroid.{Matroid, worth, worth-indep, indep-worth}
+use Rattle.matroid.specs.Division.{bundle, held, total, sum-bundles, weak-duality}
+use Rattle.matroid.specs.Cuts.{Cuts}
+use Rattle.matroid.specs.Share.{share, Cut, share-most, share-bound}
+use Rattle.matroid.specs.Best.{best, Attained, best-most, best-attained}
+use Rattle.sets.specs.Bits.{bit}
+use Rattle.plan.specs.declared.Reading.{Reading}
+use Rattle.plan.specs.Read.{readPlan}
+use Rattle.plan.proofs.Bounds.{bounded}
+use Rattle.kinds.specs.Teams.{seats}
+use Rattle.sheet.specs.Layout.{lengthOf}
+use Rattle.sheet.specs.Fields.{totalAt, holderAt, boundAt, shareAt, setAt, partAt}
+use Rattle.sheet.specs.Form.{form, firstFault}
+use Rattle.sheet.proofs.Forming.{form-passes, passes-form, formed-passes, passes-formed}
+use Rattle.checker.specs.declared.Verdict.{Verdict}
+use Rattle.checker.specs.declared.Verdict.the-variants.{Accepted, Refused}
+use Rattle.checker.specs.Verdict.{Rule, rule, firstBroken}
+use Rattle.checker.specs.Rules.{independent, dependentAt, boundOf, totalHolds, partsHold, shareHolds, wrongShareAt, shortAt}
+use Rattle.checker.specs.Check.{divisionRules, sheetRules, verdictOf, checkSheet}
+use Rattle.checker.specs.Stated.{Stated}
+use Rattle.checker.specs.Fair.{FairBy, Fair}
+use Rattle.checker.proofs.Lowest.{lowest-none, lowest-all, every-true, every-all}
+use Rattle.checker.proofs.Bundles.{independent-yes, independent-worth}
+use Rattle.checker.proofs.Verdicts.{kept, none-broken}
+
+-- ---- two tests
+
+and-left : (a b : Bool) → (a && b) ≡ true → a ≡ true
+and-left true b e = refl
+and-left false b e = absurd (false≢true e)
+
+and-right : (a b : Bool) → (a && b) ≡ true → b ≡ true
+and-right true b e = e
+and-right false b e = absurd (false≢true e)
+
+-- ---- what is accepted keeps every rule
+
+refused-not : (number place : ℕ) → Accepted ≡ Refused number place → ⊥
+refused-not number place e = let z : _≡_ {A = ℕ} 0 1 = cc in omega arith
+
+unbroken : (x : Rule) (xs : List Rule) → Accepted ≡ firstBroken (x ∷ xs) → (x .broken ≡ false) × (Accepted ≡ firstBroken xs)
+unfolding firstBroken
+unbroken x xs e = go (x .broken) e
+  where
+    go : (b : Bool) → Accepted ≡ cond b (Refused (x .number) (x .place)) (firstBroken xs) → (b ≡ false) × (Accepted ≡ firstBroken xs)
+    go true h = absurd (refused-not (x .number) (x .place) h)
+    go false h = (refl, h)
+
+module _ (r : Reading) (sheet : List ℕ) where
+  -- the test of rule 15 for a team
+  share-test : ℕ → Bool
+  share-test t = shareHolds (seats r t) (r .n) (shareAt (r .m) sheet t) (setAt (r .m) sheet t) (partAt (r .m) sheet t)
+
+  -- ---- from acceptance to the facts
+
+  -- rule 15 for one team
+  share-reached : (t : ℕ) → share-test t ≡ true → (p : ℕ) → p < r .n → shareAt (r .m) sheet t ≤ worth (seats r t) (bundle (partAt (r .m) sheet t) p)
+  unfolding share-test shareHolds partsHold
+  share-reached t e p l = leb-true _ _ (every-all (r .n) (λ p. leb (shareAt (r .m) sheet t) (worth (seats r t) (bundle (partAt (r .m) sheet t) p))) (and-left _ _ e) p l)
+
+  share-limited : (t : ℕ) → share-test t ≡ true → size (r .m) (complement (bit (setAt (r .m) sheet t))) + r .n * worth (seats r t) (bit (setAt (r .m) sheet t)) < r .n * (shareAt (r .m) sheet t + 1)
+  unfolding share-test shareHolds
+  share-limited t e = ltb-true _ _ (and-right (partsHold (seats r t) (r .n) (shareAt (r .m) sheet t) (partAt (r .m) sheet t)) _ e)
+
+  -- rule 14
+  total-given : totalHolds r sheet ≡ true → totalAt sheet ≡ size (r .m) (held (r .n) (holderAt sheet))
+  unfolding totalHolds
+  total-given e = eqb-true _ _ (and-left _ _ e)
+
+  total-bound : totalHolds r sheet ≡ true → totalAt sheet ≡ size (r .m) (complement (bit (boundAt (r .m) sheet))) + sum (r .n) (λ t. worth (seats r t) (bit (boundAt (r .m) sheet)))
+  unfolding totalHolds boundOf
+  total-bound e = eqb-true _ _ (and-right (eqb (totalAt sheet) (size (r .m) (held (r .n) (holderAt sheet)))) _ e)
+
+  -- each "lowest team" is none
+  all-independent : r .n ≤ dependentAt r (holderAt sheet) → (t : ℕ) → t < r .n → independent (seats r t) (bundle (holderAt sheet) t) ≡ true
+  unfolding dependentAt
+  all-independent h t l = lowest-all (r .n) (λ t. independent (seats r t) (bundle (holderAt sheet) t)) h t l
+
+  all-shares : r .n ≤ wrongShareAt r sheet → (t : ℕ) → t < r .n → share-test t ≡ true
+  unfolding wrongShareAt share-test
+  all-shares h t l = lowest-all (r .n) (λ t. shareHolds (seats r t) (r .n) (shareAt (r .m) sheet t) (setAt (r .m) sheet t) (partAt (r .m) sheet t)) h t l
+
+  all-enough : r .n ≤ shortAt (r .m) (r .n) sheet → (t : ℕ) → t < r .n → shareAt (r .m) sheet t ≤ size (r .m) (bundle (holderAt sheet) t)
+  unfolding shortAt
+  all-enough h t l = leb-true _ _ (lowest-all (r .n) (λ t. leb (shareAt (r .m) sheet t) (size (r .m) (bundle (holderAt sheet) t))) h t l)
+
+  pub stated : Accepted ≡ verdictOf r sheet → Stated r sheet
+  unfolding verdictOf
+  stated e =
+      let (read, e₁) = unbroken _ _ e in
+      let (long, e₂) = unbroken _ _ e₁ in
+      let (form, e₃) = unbroken _ _ e₂ in
+      let (indep, e₄) = unbroken _ _ e₃ in
+      let (sum, e₅) = unbroken _ _ e₄ in
+      let (shares, e₆) = unbroken _ _ e₅ in
+      let (short, _) = unbroken _ _ e₆ in
+      let holds = not-false _ sum in
+      let shown = all-shares (ltb-false _ _ shares) in
+      record {
+        read = eqb-true _ _ (not-false _ read);
+        long = eqb-true _ _ (not-false _ long);
+        formed = passes-formed sheet (r .m) (r .n) (form-passes sheet (r .m) (r .n) (ltb-false _ _ form));
+        independent = λ t l. indep-worth (seats r t) (bundle (holderAt sheet) t) (independent-worth (seats r t) (bundle (holderAt sheet) t) (all-independent (ltb-false _ _ indep) t l));
+        given = total-given holds;
+        bound = total-bound holds;
+        reached = λ t l. share-reached t (shown t l);
+        limited = λ t l. share-limited t (shown t l);
+        enough = all-enough (ltb-false _ _ short);
+      }
+
+  -- ---- from the facts to acceptance
+
+  module _ (s : Stated r sheet) where
+    none-dependent : r .n ≡ dependentAt r (holderAt sheet)
+    unfolding dependentAt
+    none-dependent = lowest-none (r .n) (λ t. independent (seats r t) (bundle (holderAt sheet) t))
+        (λ t l. independent-yes (seats r t) (bundle (holderAt sheet) t) (worth-indep (seats r t) (bundle (holderAt sheet) t) (s .independent t l)))
+
+    total-holds : totalHolds r sheet ≡ true
+    unfolding totalHolds boundOf
+    total-holds = rw (eq-eqb _ _ (s .given), eq-eqb _ _ (s .bound)) refl
+
+    share-holds : (t : ℕ) → t < r .n → share-test t ≡ true
+    unfolding share-test shareHolds partsHold
+    share-holds t l =
+        rw (
+          every-true (r .n) (λ p. leb (shareAt (r .m) sheet t) (worth (seats r t) (bundle (partAt (r .m) sheet t) p))) (λ p b. le-leb _ _ (s .reached t l p b)),
+          lt-ltb _ _ (s .limited t l),
+        )
+        refl
+
+    none-wrong : r .n ≡ wrongShareAt r sheet
+    unfolding wrongShareAt share-test
+    none-wrong = lowest-none (r .n) (λ t. shareHolds (seats r t) (r .n) (shareAt (r .m) sheet t) (setAt (r .m) sheet t) (partAt (r .m) sheet t)) share-holds
+
+    none-short : r .n ≡ shortAt (r .m) (r .n) sheet
+    unfolding shortAt
+    none-short = lowest-none (r .n) (λ t. leb (shareAt (r .m) sheet t) (size (r .m) (bundle (holderAt sheet) t))) (λ t l. le-leb _ _ (s .enough t l))
+
+    pub accepts : verdictOf r sheet ≡ Accepted
+    unfolding verdictOf
+    accepts =
+        let d = none-dependent in
+        let w = none-wrong in
+        let k = none-short in
+        sym
+        (kept _ _ Accepted (ap not (eq-eqb _ _ (s .read)))
+        (kept _ _ Accepted (ap not (eq-eqb _ _ (s .long)))
+        (kept _ _ Accepted (le-ltb _ _ (passes-form sheet (r .m) (r .n) (formed-passes sheet (r .m) (r .n) (s .formed))))
+        (kept _ _ Accepted (le-ltb (dependentAt r (holderAt sheet)) (r .n) (omega arith))
+        (kept _ _ Accepted (ap not total-holds)
+        (kept _ _ Accepted (le-ltb (wrongShareAt r sheet) (r .n) (omega arith))
+        (kept _ _ Accepted (le-ltb (shortAt (r .m) (r .n) sheet) (r .n) (omega arith)) none-broken)))))))
+
+    -- ---- from the facts to what they mean
+
+    -- all that is given, counted team by team
+    given-sum : size (r .m) (held (r .n) (holderAt sheet)) ≡ sum (r .n) (λ t. size (r .m) (bundle (holderAt sheet) t))
+    given-sum =
+        whole (held (r .n) (holderAt sheet))
+        ∙ sym (sum-bundles (r .m) (r .n) (holderAt sheet) all)
+        ∙ sum-same (r .n) (λ t. size (r .m) (bundle (holderAt sheet) t ∩ all)) (λ t. size (r .m) (bundle (holderAt sheet) t)) (λ t _. sym (whole (bundle (holderAt sheet) t)))
+      where
+        all : Set
+        all k = true
+
+        whole : (A : Set) → size (r .m) A ≡ size (r .m) (A ∩ all)
+        whole A = size-same (r .m) (inter-most within-refl (record { at = λ k _ _. tt })) (inter-left A all)
+
+    held-worth : (t : ℕ) → t < r .n → worth (seats r t) (bundle (holderAt sheet) t) ≡ size (r .m) (bundle (holderAt sheet) t)
+    held-worth t l = worth-indep (seats r t) (bundle (holderAt sheet) t) (s .independent t l)
+
+    total-true : totalAt sheet ≡ total (r .n) (seats r) (holderAt sheet)
+    total-true =
+        s .given
+        ∙ given-sum
+        ∙ sym (sum-same (r .n) (λ t. worth (seats r t) (bundle (holderAt sheet) t)) (λ t. size (r .m) (bundle (holderAt sheet) t)) held-worth)
+
+    total-best : (D : ℕ → ℕ) → total (r .n) (seats r) D ≤ totalAt sheet
+    total-best D = let b = s .bound in let w = weak-duality (r .n) (seats r) D (bit (boundAt (r .m) sheet)) in omega arith
+
+    module _ (t : ℕ) (l : t < r .n) where
+      -- the PARTs are a cut whose every part is worth the share, so it is no more than the team's share
+      share-le : shareAt (r .m) sheet t ≤ share (seats r t) (r .n)
+      share-le = share-most (seats r t) (r .n) (omega arith) (shareAt (r .m) sheet t) (record { part = partAt (r .m) sheet t; below = s .formed .part-below t l; fair = s .reached t l })
+
+      -- and the set allows none that is larger
+      share-ge : share (seats r t) (r .n) < shareAt (r .m) sheet t + 1
+      share-ge =
+          let b = share-bound (seats r t) (r .n) (omega arith) (bit (setAt (r .m) sheet t)) in
+          let m = s .limited t l in
+          lt-of-mul-lt-mul-left (r .n) (omega arith)
+
+      share-true : shareAt (r .m) sheet t ≡ share (seats r t) (r .n)
+      share-true = let a = share-le in let b = share-ge in omega arith
+
+      -- were every part of a cut worth more than the share, they would be worth more in all than the set allows
+      none-envies : (C : ℕ → ℕ) → Cuts (r .m) (r .n) C → (p : ℕ) × (p < r .n) × (worth (seats r t) (bundle C p) ≤ worth (seats r t) (bundle (holderAt sheet) t))
+      none-envies C cut =
+          let dual = weak-duality (r .n) (λ _. seats r t) C (bit (setAt (r .m) sheet t)) in
+          let each-set = sum-const (r .n) (worth (seats r t) (bit (setAt (r .m) sheet t))) in
+          let each-share = sum-const (r .n) (shareAt (r .m) sheet t + 1) in
+          let m = s .limited t l in
+          let (p, b, less) = sum-less (r .n) (λ p. worth (seats r t) (bundle C p)) (λ p. shareAt (r .m) sheet t + 1) (omega arith) in
+          let w = held-worth t l in
+          let e = s .enough t l in
+          (p, b, omega arith)
+
+    pub fair-stated : FairBy r sheet
+    fair-stated = record { total-true = total-true; total-best = total-best; shares-true = share-true; none-envies = none-envies }
+
+    -- the total stated is the best one
+    pub best-stated : totalAt sheet ≡ best (r .n) (seats r)
+    best-stated =
+        let a = best-attained (r .n) (seats r) in
+        let e = a .full in
+        let u = total-best (a .holder) in
+        let l = best-most (r .n) (seats r) (holderAt sheet) in
+        let t = total-true in
+        omega arith
+
+-- ---- on the bytes of a plan
+
+-- what Check accepts is fair
+pub fair : (plan sheet : List ℕ) → checkSheet plan sheet ≡ Accepted → Fair plan sheet
+fair plan sheet e = fair-stated (readPlan plan) sheet (stated (readPlan plan) sheet (sym e))

@@ -1,0 +1,7 @@
+pub mod Lowest
+pub mod Bundles
+pub mod Divided
+pub mod Shared
+pub mod Verdicts
+pub mod Acceptance
+pub mod Answers

@@ -1,0 +1,157 @@
+-- The loops over the shares: whether every part is worth the share, the lowest share that does not hold, and the lowest team that is short.
+use Prim.Native.Nat.{ℕ, suc, _+_, _-_, _*_, _≤_, _<_}
+use mathlib.Core.Path.{_≡_, refl, sym, ap, ap₂, _∙_, subst}
+use mathlib.Core.Bool.{Bool, true, false, _&&_}
+use mathlib.Core.List.{List}
+use native.Mathlib.Omega.{arith}
+use native.Mathlib.Nat.{mul-le-mul}
+use borrow.Author.Count.{below-more}
+use borrow.Author.Tests.{le-leb, lt-leb}
+use lib.Dec.{T, eqb, leb, ltb}
+use lib.ListN.{length, getD, take, drop, length-take, length-drop}
+use lib.Seq.{getD-take, getD-drop}
+use Rattle.matroid.specs.Set.{complement, size}
+use Rattle.matroid.specs.Matroid.{Matroid, worth, worth-same}
+use Rattle.matroid.specs.Division.{bundle}
+use Rattle.sets.specs.Bits.{bit}
+use Rattle.plan.specs.declared.Reading.{Reading}
+use Rattle.plan.specs.declared.Team.{Team}
+use Rattle.kinds.specs.Teams.{matroidOf, teamAt, seats}
+use Rattle.sheet.specs.Layout.{shareStart}
+use Rattle.sheet.specs.Fields.{wordAt, holderAt, shareAt, setAt, partAt}
+use Rattle.sheet.specs.Named.{named, Words}
+use Rattle.checker.specs.Rules.{partsHold, shareHolds, wrongShareAt, shortAt}
+use Rattle.checker.proofs.Lowest.{lowest-at, lowest-none, every-true, every-false, every-same}
+use Rattle.checker.proofs.Bundles.{counted, worth-word, size-word, worth-small}
+
+-- ---- the parts
+
+-- the first p parts are worth the share
+pub record Reached {m : ℕ} (M : Matroid m) (share : ℕ) (words : List ℕ) (p : ℕ) : Type 0 where
+  pub at : (k : ℕ) → k < p → share ≤ worth M (bit (getD words k 0))
+
+pub reached-none : {m : ℕ} (M : Matroid m) (share : ℕ) (words : List ℕ) → Reached M share words 0
+reached-none M share words = record { at = λ k l. absurd (omega arith) }
+
+module _ {m : ℕ} (M : Matroid m) (share : ℕ) (words : List ℕ) (p : ℕ) (h : Reached M share words p) where
+  pub reached-next : (v : ℕ) → v ≡ worth M (bit (getD words p 0)) → share ≤ v → Reached M share words (p + 1)
+  reached-next v is-v l = record { at = below-more (λ k. share ≤ worth M (bit (getD words k 0))) p (h .at) (omega arith) }
+
+  pub reached-stop : (n v : ℕ) → n ≤ 12 → p < n → v ≡ worth M (bit (getD words p 0)) → v < share → (C : ℕ → ℕ) → Words m C words → false ≡ partsHold M n share C
+  unfolding partsHold
+  reached-stop n v n12 l is-v less C w =
+      let e = worth-word m C words w p (omega arith) M in
+      sym (every-false n (λ p. leb share (worth M (bundle C p))) p l (lt-leb share (worth M (bundle C p)) (omega arith)))
+
+  pub reached-done : (n : ℕ) → n ≤ 12 → n ≤ p → (C : ℕ → ℕ) → Words m C words → true ≡ partsHold M n share C
+  unfolding partsHold
+  reached-done n n12 g C w =
+      sym (every-true n (λ p. leb share (worth M (bundle C p)))
+      (λ k b. let e = worth-word m C words w k (omega arith) M in let s = h .at k (omega arith) in le-leb share (worth M (bundle C k)) (omega arith)))
+
+-- ---- one share
+
+module _ {m : ℕ} (M : Matroid m) (n s K : ℕ) (C : ℕ → ℕ) where
+  pub share-no : false ≡ partsHold M n s C → false ≡ shareHolds M n s K C
+  unfolding shareHolds
+  share-no e = rw (← e) refl
+
+  pub share-tested : (o v : ℕ) → true ≡ partsHold M n s C → o ≡ size m (complement (bit K)) → v ≡ worth M (bit K) → ltb (o + n * v) (n * (s + 1)) ≡ shareHolds M n s K C
+  unfolding shareHolds
+  share-tested o v e is-o is-v = rw (← e, is-o, is-v) refl
+
+  -- a share is judged by what is named below m
+  pub share-agree : (B : ℕ → ℕ) → ((g : ℕ) → g < m → C g ≡ B g) → shareHolds M n s K C ≡ shareHolds M n s K B
+  unfolding shareHolds partsHold
+  share-agree B h = ap (λ (b : Bool). b && ltb (size m (complement (bit K)) + n * worth M (bit K)) (n * (s + 1))) (every-same n _ _ (λ p _. ap (leb s) (same p)))
+    where
+      same : (p : ℕ) → worth M (bundle C p) ≡ worth M (bundle B p)
+      same p = worth-same M {S = bundle C p} {S′ = bundle B p}
+          (record { at = λ g l. subst (λ (x : ℕ). T (eqb x p)) (h g l) })
+          (record { at = λ g l. subst (λ (x : ℕ). T (eqb x p)) (sym (h g l)) })
+
+-- what the products of a share come to
+pub product-small : (n v : ℕ) → n ≤ 12 → v ≤ 256 → n * v ≤ 3072
+product-small n v a b = mul-le-mul a b
+
+-- ---- all shares
+
+-- a team's PARTs as a part of the sheet
+pub stretch-long : (sheet : List ℕ) (m start : ℕ) → start + 3 * m ≤ length sheet → 3 * m ≤ length (take (start + 3 * m - start) (drop start sheet))
+stretch-long sheet m start l = simp (length-take, length-drop) (omega arith)
+
+-- the shares of the first t teams hold
+pub record Shown (r : Reading) (sheet : List ℕ) (t : ℕ) : Type 0 where
+  pub at : (k : ℕ) → k < t → shareHolds (seats r k) (r .n) (shareAt (r .m) sheet k) (setAt (r .m) sheet k) (partAt (r .m) sheet k) ≡ true
+
+pub shown-none : (r : Reading) (sheet : List ℕ) → Shown r sheet 0
+shown-none r sheet = record { at = λ k l. absurd (omega arith) }
+
+module _ (r : Reading) (sheet : List ℕ) (t : ℕ) (h : Shown r sheet t) where
+  -- the test of team t, as the code has it
+  module _ (team : Team) (at set start end : ℕ) (v : Bool) (is-team : team ≡ teamAt (r .teams) (r .n) t) (is-at : at ≡ shareStart (r .m) t) (is-set : set ≡ wordAt sheet (at + 3))
+      (is-start : start ≡ at + 11) (is-end : end ≡ start + 3 * r .m)
+      (is-v : v ≡ shareHolds (matroidOf (r .m) team) (r .n) (getD sheet (at + 2) 0) set (named (take (end - start) (drop start sheet)))) where
+    stretch : (g : ℕ) → g < r .m → named (take (end - start) (drop start sheet)) g ≡ partAt (r .m) sheet t g
+    stretch g l =
+        getD-take (end - start) (drop start sheet) (3 * g + 2) 0 (omega arith)
+        ∙ getD-drop start sheet (3 * g + 2) 0
+        ∙ ap (λ (x : ℕ). getD sheet x 0) (omega arith)
+
+    here : v ≡ shareHolds (seats r t) (r .n) (shareAt (r .m) sheet t) (setAt (r .m) sheet t) (partAt (r .m) sheet t)
+    here =
+        is-v
+        ∙ share-agree (matroidOf (r .m) team) (r .n) (getD sheet (at + 2) 0) set (named (take (end - start) (drop start sheet))) (partAt (r .m) sheet t) stretch
+        ∙ ap (λ (x : Team). shareHolds (matroidOf (r .m) x) (r .n) (getD sheet (at + 2) 0) set (partAt (r .m) sheet t)) is-team
+        ∙ ap (λ (x : ℕ). shareHolds (seats r t) (r .n) (getD sheet (at + 2) 0) x (partAt (r .m) sheet t)) is-set
+        ∙ ap (λ (x : ℕ). shareHolds (seats r t) (r .n) (getD sheet (x + 2) 0) (wordAt sheet (x + 3)) (partAt (r .m) sheet t)) is-at
+
+    pub shown-next : v ≡ true → Shown r sheet (t + 1)
+    shown-next e = record {
+      at = below-more (λ k. shareHolds (seats r k) (r .n) (shareAt (r .m) sheet k) (setAt (r .m) sheet k) (partAt (r .m) sheet k) ≡ true) t (h .at) (sym here ∙ e);
+    }
+
+    pub shown-stop : t < r .n → v ≡ false → t ≡ wrongShareAt r sheet
+    unfolding wrongShareAt
+    shown-stop l e = lowest-at (r .n) (λ t. shareHolds (seats r t) (r .n) (shareAt (r .m) sheet t) (setAt (r .m) sheet t) (partAt (r .m) sheet t)) t l (h .at) (sym here ∙ e)
+
+  pub shown-done : r .n ≤ t → r .n ≡ wrongShareAt r sheet
+  unfolding wrongShareAt
+  shown-done g = lowest-none (r .n) (λ t. shareHolds (seats r t) (r .n) (shareAt (r .m) sheet t) (setAt (r .m) sheet t) (partAt (r .m) sheet t)) (λ k b. h .at k (omega arith))
+
+-- ---- what is held
+
+-- the first t teams hold their shares
+pub record Enough (m : ℕ) (words sheet : List ℕ) (t : ℕ) : Type 0 where
+  pub at : (k : ℕ) → k < t → shareAt m sheet k ≤ counted words k
+
+pub enough-none : (m : ℕ) (words sheet : List ℕ) → Enough m words sheet 0
+enough-none m words sheet = record { at = λ k l. absurd (omega arith) }
+
+module _ (m n : ℕ) (words sheet : List ℕ) (t : ℕ) (h : Enough m words sheet t) where
+  module _ (at share c : ℕ) (is-at : at ≡ shareStart m t) (is-share : share ≡ getD sheet (at + 2) 0) (is-c : c ≡ size 64 (bit (getD words t 0))) where
+    stated : share ≡ shareAt m sheet t
+    stated = is-share ∙ ap (λ (x : ℕ). getD sheet (x + 2) 0) is-at
+
+    count : c ≡ counted words t
+    unfolding counted
+    count = is-c
+
+    pub enough-next : share ≤ c → Enough m words sheet (t + 1)
+    enough-next l = let a = stated in let b = count in record { at = below-more (λ k. shareAt m sheet k ≤ counted words k) t (h .at) (omega arith) }
+
+    pub enough-stop : m ≤ 64 → n ≤ 12 → t < n → c < share → Words m (holderAt sheet) words → t ≡ shortAt m n sheet
+    unfolding shortAt
+    enough-stop m64 n12 l less w =
+        let a = stated in
+        let b = count in
+        let e = size-word m (holderAt sheet) words w t (omega arith) m64 in
+        lowest-at n (λ t. leb (shareAt m sheet t) (size m (bundle (holderAt sheet) t))) t l
+        (λ k b. let s = h .at k b in let e = size-word m (holderAt sheet) words w k (omega arith) m64 in le-leb (shareAt m sheet k) (size m (bundle (holderAt sheet) k)) (omega arith))
+        (lt-leb (shareAt m sheet t) (size m (bundle (holderAt sheet) t)) (omega arith))
+
+  pub enough-done : m ≤ 64 → n ≤ 12 → n ≤ t → Words m (holderAt sheet) words → n ≡ shortAt m n sheet
+  unfolding shortAt
+  enough-done m64 n12 g w =
+      lowest-none n (λ t. leb (shareAt m sheet t) (size m (bundle (holderAt sheet) t)))
+      (λ k b. let s = h .at k (omega arith) in let e = size-word m (holderAt sheet) words w k (omega arith) m64 in le-leb (shareAt m sheet k) (size m (bundle (holderAt sheet) k)) (omega arith))

@@ -1,0 +1,122 @@
+// Check and Page: a sheet is accepted exactly by the rules, and what an accepted sheet states is true.
+ghost use mathlib.Core.Path.{_≡_};
+ghost use Prim.Native.Nat.{_≤_};
+ghost use lib.ListN.{length};
+ghost use Rattle.plan.specs.Valid.{Valid};
+ghost use Rattle.sheet.specs.Layout.{lengthOf};
+ghost use Rattle.checker.specs.declared.Verdict.{Verdict};
+ghost use Rattle.checker.specs.Verdict.{numberOf, placeOf, firstBroken};
+ghost use Rattle.checker.specs.Check.{divisionRules, verdictOf, checkSheet};
+ghost use Rattle.checker.specs.Fair.{Fair};
+ghost use Rattle.checker.specs.Page.{accepts, pageOf};
+use plan::Reading;
+
+pub mod division;
+pub mod shares;
+
+// What Check answers: a refusal has its number and place.
+pub enum Verdict {
+    Accepted,
+    Refused(usize, usize),
+}
+
+// The paper's number of a verdict: a refusal's own, and 0 for acceptance.
+pub fn number(v: Verdict) -> usize
+    ensures { λ r. ⌜ r ≡ numberOf v ⌝ }
+{
+    match v {
+        Verdict::Accepted => 0,
+        Verdict::Refused(number, _) => number,
+    }
+}
+
+// The place of a refusal, and 0 for acceptance.
+pub fn place(v: Verdict) -> usize
+    ensures { λ r. ⌜ r ≡ placeOf v ⌝ }
+{
+    match v {
+        Verdict::Accepted => 0,
+        Verdict::Refused(_, place) => place,
+    }
+}
+
+// The rules about the division and the shares, 13 to 16, on a sheet of the right form.
+fn weigh(r: Reading, sheet: &[u8]) -> Verdict
+    requires { ⌜ (r .m ≤ 64) × (r .n ≤ 12) × (lengthOf (r .m) (r .n) ≤ length (now sheet)) ⌝ }
+    ensures { λ v. ⌜ v ≡ firstBroken (divisionRules r (now (sheet .entry))) ⌝ }
+{
+    let end = 4 + 3 * r.m;
+    let bundles = sheet::words(&sheet[4..end], r.m);
+    let t = division::first_dependent(r, bundles);
+    if t < r.n {
+        return Verdict::Refused(13, t);
+    }
+    let total = sheet::wide(sheet[3]);
+    if total != division::given(bundles, r.n) {
+        return Verdict::Refused(14, 0);
+    }
+    if total != division::bound(r, sheet::word_at(sheet, end + 1)) {
+        return Verdict::Refused(14, 0);
+    }
+    let t = shares::first_wrong(r, sheet);
+    if t < r.n {
+        return Verdict::Refused(15, t);
+    }
+    let t = shares::first_short(bundles, r.m, r.n, sheet);
+    if t < r.n {
+        return Verdict::Refused(16, t);
+    }
+    Verdict::Accepted
+}
+
+// All rules, by a plan that is read.
+fn judge(r: Reading, sheet: &[u8]) -> Verdict
+    requires { ⌜ (r .refusal ≡ 0 → Valid r) ⌝ }
+    ensures { λ v. ⌜ v ≡ verdictOf r (now (sheet .entry)) ⌝ }
+{
+    if r.refusal != 0 {
+        return Verdict::Refused(r.refusal, r.place);
+    }
+    let long = sheet::length(r.m, r.n);
+    if sheet.len() != long {
+        return Verdict::Refused(11, 0);
+    }
+    let fault = sheet::form::first_fault(sheet, r.m, r.n);
+    if fault < long {
+        return Verdict::Refused(12, fault);
+    }
+    weigh(r, sheet)
+}
+
+// Checks a sheet by a plan.
+pub fn check(plan: &[u8], sheet: &[u8]) -> Verdict
+    ensures verdict { λ v. ⌜ v ≡ checkSheet (now (plan .entry)) (now (sheet .entry)) ⌝ }
+    ensures fair { λ v. ⌜ (v ≡ Verdict.Accepted → Fair (now (plan .entry)) (now (sheet .entry))) ⌝ }
+{
+    judge(plan::read(plan), sheet)
+}
+
+// Whether a verdict accepts.
+fn accepted(v: Verdict) -> bool
+    ensures { λ r. ⌜ r ≡ accepts v ⌝ }
+{
+    match v {
+        Verdict::Accepted => true,
+        Verdict::Refused(_, _) => false,
+    }
+}
+
+// A team's SHARE and PARTs, as a part of an accepted sheet, and else an empty part.
+pub fn page<'a>(plan: &[u8], sheet: &'a [u8], team: usize) -> &'a [u8]
+    ensures { λ p. ⌜ now p ≡ pageOf (now (plan .entry)) (now (sheet .entry)) team ⌝ }
+{
+    let r = plan::read(plan);
+    if team < r.n {
+        if accepted(judge(r, sheet)) {
+            let start = sheet::share_start(r.m, team);
+            let end = start + 11 + 3 * r.m;
+            return &sheet[start..end];
+        }
+    }
+    &sheet[0..0]
+}

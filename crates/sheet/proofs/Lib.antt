@@ -1,0 +1,8 @@
+pub mod Tests
+pub mod Faults
+pub mod Commands
+pub mod Sizes
+pub mod Numbers
+pub mod Naming
+pub mod Pages
+pub mod Forming

@@ -1,0 +1,85 @@
+use Prim.Native.Nat.{ℕ, _≤_, _<_, _-_, _+_, _*_}
+use mathlib.Core.Path.{_≡_, refl, sym, ap}
+use native.Mathlib.Omega.{arith}
+use Rattle.sheet.proofs.Sizes.{page-inside, end-inside}
+use Rattle.sheet.proofs.Pages.{PagesPass, pages-none, pages-stop, pages-next, pages-end-stop, pages-end}
+use borrow.Author.Needs.{needs}
+use Rattle.sheet.proofs.form.pages.Statement.{statement}
+use Rattle.sheet.proofs.form.pages.Tie as tie
+
+abbrev Inv-loop : tie.InvT-loop
+Inv-loop sheet m n width at₀ t₀ at t = (t ≤ n) × (width ≡ 11 + 3 * m) × PagesPass m n sheet t at
+
+abbrev μ-loop : tie.MeasureT-loop
+μ-loop sheet m n width at₀ t₀ at t = n - t
+
+mul-width : tie.Need-mul-width Inv-loop μ-loop
+mul-width c = search needs
+
+add-width : tie.Need-add-width Inv-loop μ-loop
+add-width c = search needs
+
+mul-at : tie.Need-mul-at Inv-loop μ-loop
+mul-at c = search needs
+
+add-at : tie.Need-add-at Inv-loop μ-loop
+add-at c = search needs
+
+add-at-2 : tie.Need-add-at-2 Inv-loop μ-loop
+add-at-2 c = search needs
+
+loop-holds : tie.Need-loop-holds Inv-loop μ-loop
+loop-holds c = (search needs, refl, pages-none _ _ _)
+
+page-requires : tie.Need-page-requires Inv-loop μ-loop
+page-requires c κs = omega (arith, page-inside (c .before .before .before .args .m) (c .before .before .before .args .n) (c .before .loop .t) (c .before .loop .at) (c .loop-test .taken) (c .before .loop .inv .2 .here), c .before .before .before .pre .2)
+
+add-if1 : tie.Need-add-if1 Inv-loop μ-loop
+add-if1 c = omega (arith, page-inside (c .before .before .before .before .args .m) (c .before .before .before .before .args .n) (c .before .before .loop .t) (c .before .before .loop .at) (c .before .loop-test .taken) (c .before .before .loop .inv .2 .here), c .before .before .before .before .pre .2)
+
+returns : tie.Need-returns Inv-loop μ-loop
+returns c = let e = c .before .before .before .loop .inv .1 in let l = c .if1 .taken in pages-stop _ _ _ (c .before .before .before .loop .t) (c .before .before .before .loop .at) _ (c .before .before .before .loop .inv .2) (c .before .page .ensures) (c .before .before .loop-test .taken) (omega arith)
+
+add-t : tie.Need-add-t Inv-loop μ-loop
+add-t c = search needs
+
+loop-less : tie.Need-loop-less Inv-loop μ-loop
+loop-less c = search needs
+
+loop-again : tie.Need-loop-again Inv-loop μ-loop
+loop-again c = let e = c .before .before .before .loop .inv .1 in let l = c .if1 .left in (search needs, e, pages-next _ _ _ (c .before .before .before .loop .t) (c .before .before .before .loop .at) _ (c .before .before .before .loop .inv .2) (c .before .page .ensures) (omega arith))
+
+shared-slice-read-if2 : tie.Need-shared-slice-read-if2 Inv-loop μ-loop
+shared-slice-read-if2 c = let e : c .before .before .loop .t ≡ c .before .before .before .before .args .n = omega arith in let w = ap (λ (x : ℕ). x * (11 + 3 * c .before .before .before .before .args .m)) e in let here = c .before .before .loop .inv .2 .here in omega (arith, end-inside (c .before .before .before .before .args .m) (c .before .before .before .before .args .n), c .before .before .before .before .pre .2)
+
+returns-2 : tie.Need-returns-2 Inv-loop μ-loop
+returns-2 c = pages-end-stop _ _ _ (c .before .before .before .loop .t) (c .before .before .before .loop .at) (c .before .before .before .loop .inv .2) (c .before .before .before .loop .inv .0) (c .before .before .loop-test .left) (c .if2 .taken)
+
+add-result : tie.Need-add-result Inv-loop μ-loop
+add-result c = let e : c .before .before .before .loop .t ≡ c .before .before .before .before .before .args .n = omega arith in let w = ap (λ (x : ℕ). x * (11 + 3 * c .before .before .before .before .before .args .m)) e in let here = c .before .before .before .loop .inv .2 .here in omega (arith, end-inside (c .before .before .before .before .before .args .m) (c .before .before .before .before .before .args .n), c .before .before .before .before .before .pre .2)
+
+returns-3 : tie.Need-returns-3 Inv-loop μ-loop
+returns-3 c = pages-end _ _ _ (c .before .before .before .loop .t) (c .before .before .before .loop .at) (c .before .before .before .loop .inv .2) (c .before .before .before .loop .inv .0) (c .before .before .loop-test .left) (c .if2 .left)
+
+pub pages-spec : {M : Type 1} → statement M
+pages-spec =
+    tie.close
+    (tie.spec
+    Inv-loop
+    μ-loop
+    mul-width
+    add-width
+    mul-at
+    add-at
+    add-at-2
+    loop-holds
+    page-requires
+    add-if1
+    returns
+    add-t
+    loop-less
+    loop-again
+    shared-slice-read-if2
+    returns-2
+    add-result
+    returns-3)
