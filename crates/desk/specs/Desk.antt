@@ -1,0 +1,16 @@
+-- The desk's one number: "a refusal is 65,536 × its number + its place".
+use Prim.Native.Nat.{ℕ, _+_, _*_}
+use Rattle.builder.specs.declared.Built.{Built}
+use Rattle.builder.specs.declared.Built.the-variants.{Refused, Wrote}
+use Rattle.checker.specs.declared.Verdict.{Verdict}
+use Rattle.checker.specs.declared.Verdict.the-variants as verdict
+
+-- Build's answer: L, or the refusal
+abbrev pub builtNumber : Built → ℕ
+builtNumber (Refused number place) = 65536 * number + place
+builtNumber (Wrote long) = long
+
+-- Check's answer: 0, or the refusal
+abbrev pub verdictNumber : Verdict → ℕ
+verdictNumber verdict.Accepted = 0
+verdictNumber (verdict.Refused number place) = 65536 * number + place

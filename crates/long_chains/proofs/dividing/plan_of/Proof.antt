@@ -1,0 +1,27 @@
+use Rattle.plan.proofs.Bounds.{valid-reading}
+use borrow.Author.Needs.{needs}
+use Rattle.long_chains.proofs.dividing.plan_of.Statement.{statement}
+use Rattle.long_chains.proofs.dividing.plan_of.Tie as tie
+
+read-requires : tie.Need-read-requires
+read-requires c κs = search needs
+
+refused-requires : tie.Need-refused-requires
+refused-requires c κs = search needs
+
+returns : tie.Need-returns
+returns c = search needs
+
+divide-requires : tie.Need-divide-requires
+divide-requires c κs = let v = valid-reading _ _ (c .before .before .before .read .ensures) (c .before .if1 .left) in record { small = v .small; some = v .some; few = v .few; teams-long = v .teams-long }
+
+show-requires : tie.Need-show-requires
+show-requires c κs = search needs
+
+returns-2 : tie.Need-returns-2
+returns-2 c = search needs
+
+pub plan-of-spec : {M : Type 1} → statement M
+plan-of-spec =
+    tie.close
+    (tie.spec read-requires refused-requires returns divide-requires show-requires returns-2)

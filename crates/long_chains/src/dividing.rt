@@ -1,0 +1,72 @@
+// The verb `divide HEX`: the division of a plan as the weekly listing shows it.
+ghost use Prim.Native.Nat.{_≤_};
+use crate::print;
+use engine::Seats;
+use engine::divide::Division;
+use engine::share::Shared;
+use plan::Reading;
+use std::num::wrapping_add_u64;
+
+// How many of m instruments a table places with a team, not in the pool.
+fn total(owner: [u8; 64], m: usize) -> u64 {
+    let mut count: u64 = 0;
+    for g in 0..64usize {
+        let place = owner[g];
+        if g < m {
+            if place != 255 {
+                count = wrapping_add_u64(count, 1);
+            }
+        }
+    }
+    count
+}
+
+// A line for each of n teams: its share and the instruments it holds.
+fn teams(owner: [u8; 64], shares: [Shared; 12], m: usize, n: usize) {
+    for t in 0..12usize {
+        let shared = shares[t];
+        if t < n {
+            print::marked(b"\nTEAM ", t as u64);
+            print::marked(b" SHARE ", shared.share as u64);
+            print::text(b" HOLDS");
+            print::placed(owner, m, t);
+        }
+    }
+}
+
+// The whole listing of a division.
+fn show(r: Division, m: usize, n: usize) {
+    let holding = r.holding;
+    let owner = holding.owner;
+    let shares = r.shares;
+    print::marked(b"TOTAL ", total(owner, m));
+    teams(owner, shares, m, n);
+    print::text(b"\nPOOL");
+    print::placed(owner, m, 255);
+}
+
+// `REFUSED`, the number and the place of a refusal.
+fn refused(r: Reading) {
+    print::marked(b"REFUSED ", r.refusal as u64);
+    print::marked(b" ", r.place as u64);
+}
+
+// Divides a plan.
+fn plan_of(file: &[u8]) {
+    let r = plan::read(file);
+    if r.refusal != 0 {
+        refused(r);
+        return;
+    }
+    let teams = r.teams;
+    let m = r.m;
+    let n = r.n;
+    show(engine::divide::divide(Seats { m, n, teams }), m, n);
+}
+
+// Answers the verb.
+pub fn answer(hex: &[u8]) {
+    let mut space = io::buffer();
+    let k = lines::decode(hex, &mut space);
+    plan_of(&space[..k]);
+}

@@ -1,0 +1,45 @@
+use Prim.Native.Nat.{_≤_, _-_}
+use borrow.Author.Needs.{needs}
+use Rattle.small_plans.proofs.exhaust.best_share.Statement.{statement}
+use Rattle.small_plans.proofs.exhaust.best_share.Tie as tie
+
+abbrev Inv-loop : tie.InvT-loop
+Inv-loop table t n most₀ number₀ most number = number ≤ 243
+
+abbrev μ-loop : tie.MeasureT-loop
+μ-loop table t n most₀ number₀ most number = 243 - number
+
+loop-holds : tie.Need-loop-holds Inv-loop μ-loop
+loop-holds c = search needs
+
+parts-requires : tie.Need-parts-requires Inv-loop μ-loop
+parts-requires c κs = search needs
+
+least-requires : tie.Need-least-requires Inv-loop μ-loop
+least-requires c κs = search needs
+
+add-number : tie.Need-add-number Inv-loop μ-loop
+add-number c = search needs
+
+loop-less : tie.Need-loop-less Inv-loop μ-loop
+loop-less c = search needs
+
+loop-again : tie.Need-loop-again Inv-loop μ-loop
+loop-again c = search needs
+
+returns : tie.Need-returns Inv-loop μ-loop
+returns c = search needs
+
+pub best-share-spec : {M : Type 1} → statement M
+best-share-spec =
+    tie.close
+    (tie.spec
+    Inv-loop
+    μ-loop
+    loop-holds
+    parts-requires
+    least-requires
+    add-number
+    loop-less
+    loop-again
+    returns)

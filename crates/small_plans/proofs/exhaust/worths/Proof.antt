@@ -1,0 +1,57 @@
+use Prim.Native.Nat.{_≤_, _-_}
+use borrow.Author.Needs.{needs}
+use Rattle.small_plans.proofs.exhaust.worths.Statement.{statement}
+use Rattle.small_plans.proofs.exhaust.worths.Tie as tie
+
+abbrev Inv-loop : tie.InvT-loop
+Inv-loop m n teams table₀ k₀ table k = k ≤ 128
+
+abbrev μ-loop : tie.MeasureT-loop
+μ-loop m n teams table₀ k₀ table k = 128 - k
+
+loop-holds : tie.Need-loop-holds Inv-loop μ-loop
+loop-holds c = search needs
+
+mul-team : tie.Need-mul-team Inv-loop μ-loop
+mul-team c = search needs
+
+array-copy-out-team : tie.Need-array-copy-out-team Inv-loop μ-loop
+array-copy-out-team c = search needs
+
+worth-of-requires : tie.Need-worth-of-requires Inv-loop μ-loop
+worth-of-requires c κs = search needs
+
+as-byte-requires : tie.Need-as-byte-requires Inv-loop μ-loop
+as-byte-requires c κs = search needs
+
+array-write-table : tie.Need-array-write-table Inv-loop μ-loop
+array-write-table c = search needs
+
+add-k : tie.Need-add-k Inv-loop μ-loop
+add-k c = search needs
+
+loop-less : tie.Need-loop-less Inv-loop μ-loop
+loop-less c = search needs
+
+loop-again : tie.Need-loop-again Inv-loop μ-loop
+loop-again c = search needs
+
+returns : tie.Need-returns Inv-loop μ-loop
+returns c = search needs
+
+pub worths-spec : {M : Type 1} → statement M
+worths-spec =
+    tie.close
+    (tie.spec
+    Inv-loop
+    μ-loop
+    loop-holds
+    mul-team
+    array-copy-out-team
+    worth-of-requires
+    as-byte-requires
+    array-write-table
+    add-k
+    loop-less
+    loop-again
+    returns)

@@ -1,0 +1,160 @@
+// Random small plans. The numbers are those of Lehmer's generator; each function hands on the last number that it drew.
+ghost use Prim.Native.Nat.{_≤_};
+use plan::Team;
+
+// What each part of a plan is drawn from: eight bytes for the count of instruments, the count of teams, and a team's kind, channels,
+// classes, caps and joints.
+pub struct Family {
+    pub counts: [u8; 8],
+    pub teams: [u8; 8],
+    pub kinds: [u8; 8],
+    pub channels: [u8; 8],
+    pub classes: [u8; 8],
+    pub caps: [u8; 8],
+    pub joints: [u8; 8],
+}
+
+// A table of bytes, and the last number drawn for it.
+struct Table {
+    bytes: [u8; 64],
+    x: u64,
+}
+
+// A team, and the last number drawn for it.
+struct DrawnTeam {
+    team: Team,
+    x: u64,
+}
+
+// A plan, and the last number drawn for it.
+pub struct Drawing {
+    pub m: usize,
+    pub n: usize,
+    pub teams: [Team; 12],
+    pub x: u64,
+}
+
+// The number after x.
+fn next(x: u64) -> u64 {
+    x % 2147483647 * 48271 % 2147483647
+}
+
+// One of eight bytes.
+fn pick(x: u64, choice: [u8; 8]) -> u8 {
+    let k = (x / 256 % 8) as usize;
+    choice[k]
+}
+
+// A table whose first eight bytes are drawn, each one of eight; 255 stands in the others.
+fn entries(x: u64, choice: [u8; 8]) -> Table {
+    let mut bytes = [255u8; 64];
+    let mut at = x;
+    for g in 0..8usize {
+        at = next(at);
+        bytes[g] = pick(at, choice);
+    }
+    Table { bytes, x: at }
+}
+
+// The caps of eight classes; the others have cap 0.
+fn caps_of(bytes: [u8; 64]) -> [u8; 16] {
+    let mut cap = [0u8; 16];
+    for c in 0..8usize {
+        cap[c] = bytes[c];
+    }
+    cap
+}
+
+// The second joint of a span: one after the drawn joint where that is the first.
+fn other(a: u8, b: u8) -> u8 {
+    if a != b {
+        return b;
+    }
+    if b < 63 { b + 1 } else { 0 }
+}
+
+// Second joints, each different from the first.
+fn others(first: [u8; 64], drawn: [u8; 64]) -> [u8; 64] {
+    let mut second = [255u8; 64];
+    for g in 0..8usize {
+        second[g] = other(first[g], drawn[g]);
+    }
+    second
+}
+
+// A team.
+fn member(f: Family, x: u64) -> DrawnTeam {
+    let kinds = f.kinds;
+    let channels = f.channels;
+    let joints = f.joints;
+    let classes = f.classes;
+    let caps = f.caps;
+    let class = entries(x, classes);
+    let one = entries(class.x, joints);
+    let two = entries(one.x, joints);
+    let most = entries(two.x, caps);
+    let y = next(most.x);
+    let z = next(y);
+    let class_bytes = class.bytes;
+    let first = one.bytes;
+    let drawn = two.bytes;
+    let most_bytes = most.bytes;
+    let team = Team {
+        kind: pick(y, kinds),
+        channels: pick(z, channels),
+        cap: caps_of(most_bytes),
+        class: class_bytes,
+        first,
+        second: others(first, drawn),
+    };
+    DrawnTeam { team, x: z }
+}
+
+// A count of instruments: a byte, and 5 where that is greater.
+fn instruments(byte: u8) -> usize
+    ensures { λ r. ⌜ r ≤ 5 ⌝ }
+{
+    if byte > 5 {
+        return 5;
+    }
+    byte as usize
+}
+
+// A count of teams: a byte, 1 where that is less, and 3 where it is greater.
+fn teams(byte: u8) -> usize
+    ensures { λ r. ⌜ (1 ≤ r) × (r ≤ 3) ⌝ }
+{
+    if byte > 3 {
+        return 3;
+    }
+    if byte < 1 {
+        return 1;
+    }
+    byte as usize
+}
+
+// A plan of a family, drawn after x: up to 5 instruments and 1 to 3 teams.
+pub fn drawn(f: Family, x: u64) -> Drawing
+    ensures { λ r. ⌜ (r .m ≤ 5) × (1 ≤ r .n) × (r .n ≤ 3) ⌝ }
+{
+    let a = member(f, x);
+    let b = member(f, a.x);
+    let c = member(f, b.x);
+    let first = a.team;
+    let second = b.team;
+    let third = c.team;
+    let mut list = [plan::carry::blank(); 12];
+    list[0] = first;
+    list[1] = second;
+    list[2] = third;
+    let counts = f.counts;
+    let sizes = f.teams;
+    let y = next(c.x);
+    let z = next(y);
+    Drawing {
+        m: instruments(pick(y, counts)),
+        n: teams(pick(z, sizes)),
+        teams: list,
+        x: z,
+    }
+}
