@@ -69,10 +69,10 @@ digits zero sheet at x h = sym (mod-one x)
 digits (suc w) sheet at x h =
     let first : getD sheet at 0 ≡ x % 256 = ap (λ (i : ℕ). getD sheet i 0) (let e : at ≡ at + 0 = omega arith in e) ∙ h 0 (omega arith) ∙ ap (λ (y : ℕ). y % 256) (div-one x) in
     let rest = digits w sheet (at + 1) (x / 256) (λ j l.
-        ap (λ (i : ℕ). getD sheet i 0) (let e : at + 1 + j ≡ at + suc j = omega arith in e)
-        ∙ h (suc j) (omega arith)
-        ∙ ap (λ (y : ℕ). x / 2 ^ y % 256) (let e : 8 * suc j ≡ 8 + 8 * j = omega arith in e)
-        ∙ ap (λ (y : ℕ). y % 256) (sym (shr-shr x 8 (8 * j)))) in
+    ap (λ (i : ℕ). getD sheet i 0) (let e : at + 1 + j ≡ at + suc j = omega arith in e)
+    ∙ h (suc j) (omega arith)
+    ∙ ap (λ (y : ℕ). x / 2 ^ y % 256) (let e : 8 * suc j ≡ 8 + 8 * j = omega arith in e)
+    ∙ ap (λ (y : ℕ). y % 256) (sym (shr-shr x 8 (8 * j)))) in
     let whole = mod-pow-add x (8 * w) 8 in
     let len : 2 ^ (8 * w + 8) ≡ 2 ^ (8 * suc w) = ap (λ (y : ℕ). 2 ^ y) (let e : 8 * w + 8 ≡ 8 * suc w = omega arith in e) in
     let same : x % 2 ^ (8 * w + 8) ≡ x % 2 ^ (8 * suc w) = ap (λ (y : ℕ). x % y) len in

@@ -1,34 +1,30 @@
 -- Check accepts a sheet exactly where the facts about its fields hold, and then what the sheet states is true.
-use Prim.Native.Nat.{ℕ, zero, suc, _+_, _*_, _≤_, _<_}
-use mathlib.Core.Path.{_≡_, refl, sym, ap, _∙_, subst}
+use Prim.Native.Nat.{ℕ, _+_, _*_, _≤_, _<_}
+use mathlib.Core.Path.{_≡_, refl, sym, ap, _∙_}
 use mathlib.Core.Bool.{Bool, true, false, _&&_, not, cond, false≢true}
-use mathlib.Core.List.{List, [], _∷_}
+use mathlib.Core.List.{List, _∷_}
 use native.Mathlib.Omega.{arith}
 use native.Mathlib.Nat.{lt-of-mul-lt-mul-left}
-use lib.Dec.{eqb, leb, ltb}
-use lib.ListN.{length}
+use lib.Dec.{eqb, leb}
 use borrow.Author.Tests.{lt-ltb, le-ltb, ltb-true, ltb-false, le-leb, leb-true, eq-eqb, eqb-true, not-false}
 use Rattle.matroid.specs.Set.{Set, _∩_, complement, size, within-refl, inter-left, inter-most, size-same}
 use Rattle.matroid.specs.Sum.{sum, sum-same, sum-const, sum-less}
-use Rattle.matroid.specs.Matroid.{Matroid, worth, worth-indep, indep-worth}
+use Rattle.matroid.specs.Matroid.{worth, worth-indep, indep-worth}
 use Rattle.matroid.specs.Division.{bundle, held, total, sum-bundles, weak-duality}
 use Rattle.matroid.specs.Cuts.{Cuts}
-use Rattle.matroid.specs.Share.{share, Cut, share-most, share-bound}
-use Rattle.matroid.specs.Best.{best, Attained, best-most, best-attained}
+use Rattle.matroid.specs.Share.{share, share-most, share-bound}
+use Rattle.matroid.specs.Best.{best, best-most, best-attained}
 use Rattle.sets.specs.Bits.{bit}
 use Rattle.plan.specs.declared.Reading.{Reading}
 use Rattle.plan.specs.Read.{readPlan}
-use Rattle.plan.proofs.Bounds.{bounded}
 use Rattle.kinds.specs.Teams.{seats}
-use Rattle.sheet.specs.Layout.{lengthOf}
 use Rattle.sheet.specs.Fields.{totalAt, holderAt, boundAt, shareAt, setAt, partAt}
-use Rattle.sheet.specs.Form.{form, firstFault}
+use Rattle.sheet.specs.Form.{form}
 use Rattle.sheet.proofs.Forming.{form-passes, passes-form, formed-passes, passes-formed}
-use Rattle.checker.specs.declared.Verdict.{Verdict}
 use Rattle.checker.specs.declared.Verdict.the-variants.{Accepted, Refused}
-use Rattle.checker.specs.Verdict.{Rule, rule, firstBroken}
+use Rattle.checker.specs.Verdict.{Rule, firstBroken}
 use Rattle.checker.specs.Rules.{independent, dependentAt, boundOf, totalHolds, partsHold, shareHolds, wrongShareAt, shortAt}
-use Rattle.checker.specs.Check.{divisionRules, sheetRules, verdictOf, checkSheet}
+use Rattle.checker.specs.Check.{verdictOf, checkSheet}
 use Rattle.checker.specs.Stated.{Stated}
 use Rattle.checker.specs.Fair.{FairBy, Fair}
 use Rattle.checker.proofs.Lowest.{lowest-none, lowest-all, every-true, every-all}
@@ -207,8 +203,8 @@ module _ (r : Reading) (sheet : List ℕ) where
       share-true = let a = share-le in let b = share-ge in omega arith
 
       -- were every part of a cut worth more than the share, they would be worth more in all than the set allows
-      none-envies : (C : ℕ → ℕ) → Cuts (r .m) (r .n) C → (p : ℕ) × (p < r .n) × (worth (seats r t) (bundle C p) ≤ worth (seats r t) (bundle (holderAt sheet) t))
-      none-envies C cut =
+      cut-matched : (C : ℕ → ℕ) → Cuts (r .m) (r .n) C → (p : ℕ) × (p < r .n) × (worth (seats r t) (bundle C p) ≤ worth (seats r t) (bundle (holderAt sheet) t))
+      cut-matched C cut =
           let dual = weak-duality (r .n) (λ _. seats r t) C (bit (setAt (r .m) sheet t)) in
           let each-set = sum-const (r .n) (worth (seats r t) (bit (setAt (r .m) sheet t))) in
           let each-share = sum-const (r .n) (shareAt (r .m) sheet t + 1) in
@@ -219,7 +215,7 @@ module _ (r : Reading) (sheet : List ℕ) where
           (p, b, omega arith)
 
     pub fair-stated : FairBy r sheet
-    fair-stated = record { total-true = total-true; total-best = total-best; shares-true = share-true; none-envies = none-envies }
+    fair-stated = record { total-true = total-true; total-best = total-best; shares-true = share-true; cut-matched = cut-matched }
 
     -- the total stated is the best one
     pub best-stated : totalAt sheet ≡ best (r .n) (seats r)

@@ -10,7 +10,7 @@ use Rattle.plan.specs.declared.Reading.{Reading}
 use Rattle.plan.specs.Read.{readPlan}
 use Rattle.plan.specs.Valid.{Valid}
 use Rattle.plan.proofs.Bounds.{valid-reading}
-use Rattle.sheet.specs.Layout.{lengthOf, shareStart}
+use Rattle.sheet.specs.Layout.{shareStart}
 use Rattle.sheet.proofs.Sizes.{share-inside}
 use Rattle.checker.specs.declared.Verdict.{Verdict}
 use Rattle.checker.specs.declared.Verdict.the-variants.{Accepted, Refused}

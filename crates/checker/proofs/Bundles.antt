@@ -10,7 +10,7 @@ use lib.ListN.{getD}
 use borrow.Author.Tests.{lt-ltb, le-ltb}
 use Rattle.matroid.specs.Taut.{both, and-right}
 use Rattle.matroid.specs.Decide.{isYes}
-use Rattle.matroid.specs.Set.{Set, _∩_, complement, under, one, size, Within, size-le}
+use Rattle.matroid.specs.Set.{Set, _∩_, complement, under, one, size, size-le}
 use Rattle.matroid.specs.Matroid.{Matroid, worth, worth-same, worth-indep, indep-worth, worth-le-size}
 use Rattle.matroid.specs.Division.{bundle}
 use Rattle.sets.specs.Bits.{bit}

@@ -1,7 +1,7 @@
 -- The loops over the division: the lowest bundle that is not independent, what is given, and the bound.
 use Prim.Native.Nat.{ℕ, zero, suc, _+_, _*_, _≤_, _<_}
 use mathlib.Core.Path.{_≡_, refl, sym, ap, _∙_, subst}
-use mathlib.Core.Bool.{Bool, true, false, and-true}
+use mathlib.Core.Bool.{true}
 use mathlib.Core.Logic.{_≢_}
 use mathlib.Core.List.{List}
 use native.Mathlib.Omega.{arith}
@@ -15,7 +15,7 @@ use Rattle.matroid.specs.Division.{bundle, held, sum-bundles}
 use Rattle.sets.specs.Bits.{bit}
 use Rattle.plan.specs.declared.Reading.{Reading}
 use Rattle.plan.specs.declared.Team.{Team}
-use Rattle.kinds.specs.Teams.{matroidOf, teamAt, teamOf, seats}
+use Rattle.kinds.specs.Teams.{matroidOf, teamAt, seats}
 use Rattle.sheet.specs.Named.{Words}
 use Rattle.checker.specs.Rules.{independent, dependentAt, boundOf}
 use Rattle.checker.proofs.Lowest.{lowest-at, lowest-none}

@@ -1,6 +1,6 @@
 -- The loops over the shares: whether every part is worth the share, the lowest share that does not hold, and the lowest team that is short.
-use Prim.Native.Nat.{ℕ, suc, _+_, _-_, _*_, _≤_, _<_}
-use mathlib.Core.Path.{_≡_, refl, sym, ap, ap₂, _∙_, subst}
+use Prim.Native.Nat.{ℕ, _+_, _-_, _*_, _≤_, _<_}
+use mathlib.Core.Path.{_≡_, refl, sym, ap, _∙_, subst}
 use mathlib.Core.Bool.{Bool, true, false, _&&_}
 use mathlib.Core.List.{List}
 use native.Mathlib.Omega.{arith}
@@ -22,7 +22,7 @@ use Rattle.sheet.specs.Fields.{wordAt, holderAt, shareAt, setAt, partAt}
 use Rattle.sheet.specs.Named.{named, Words}
 use Rattle.checker.specs.Rules.{partsHold, shareHolds, wrongShareAt, shortAt}
 use Rattle.checker.proofs.Lowest.{lowest-at, lowest-none, every-true, every-false, every-same}
-use Rattle.checker.proofs.Bundles.{counted, worth-word, size-word, worth-small}
+use Rattle.checker.proofs.Bundles.{counted, worth-word, size-word}
 
 -- ---- the parts
 

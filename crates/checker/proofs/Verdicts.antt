@@ -1,7 +1,7 @@
 -- The rules one after the other: what each answer of the code comes to.
 use Prim.Native.Nat.{ℕ, _+_, _-_, _*_, _≤_, _<_}
-use mathlib.Core.Path.{_≡_, refl, sym, ap, _∙_, subst}
-use mathlib.Core.Bool.{Bool, true, false, _&&_, not, cond, and-false}
+use mathlib.Core.Path.{_≡_, refl, sym, ap, _∙_}
+use mathlib.Core.Bool.{true, false, not, and-false}
 use mathlib.Core.Logic.{_≢_}
 use mathlib.Core.List.{List, [], _∷_}
 use native.Mathlib.Omega.{arith}
@@ -21,7 +21,7 @@ use Rattle.checker.specs.declared.Verdict.{Verdict}
 use Rattle.checker.specs.declared.Verdict.the-variants.{Accepted, Refused}
 use Rattle.checker.specs.Verdict.{Rule, rule, firstBroken}
 use Rattle.checker.specs.Rules.{dependentAt, boundOf, totalHolds, wrongShareAt, shortAt}
-use Rattle.checker.specs.Check.{divisionRules, sheetRules, verdictOf}
+use Rattle.checker.specs.Check.{divisionRules, verdictOf}
 
 -- ---- one rule
 

@@ -21,7 +21,7 @@ pub record FairBy (r : Reading) (sheet : List ℕ) : Type 0 where
   -- the share stated for each team is its share
   pub shares-true : (t : ℕ) → t < r .n → shareAt (r .m) sheet t ≡ share (seats r t) (r .n)
   -- to each team, of any cut of all instruments into n parts, some part is worth no more than what it holds
-  pub none-envies : (t : ℕ) → t < r .n → (C : ℕ → ℕ) → Cuts (r .m) (r .n) C
+  pub cut-matched : (t : ℕ) → t < r .n → (C : ℕ → ℕ) → Cuts (r .m) (r .n) C
       → (p : ℕ) × (p < r .n) × (worth (seats r t) (bundle C p) ≤ worth (seats r t) (bundle (holderAt sheet) t))
 
 abbrev pub Fair : (plan sheet : List ℕ) → Type 0

@@ -150,11 +150,20 @@ verdict-small plan sheet = go (eqb (readPlan plan .refusal) 0) refl
         let few = v .few in
         rules-small (tail-rules r sheet) (
           λ _. (omega arith, omega arith),
-          (λ b. (omega arith, lt-of-lt-of-le (ltb-true _ _ b) (omega arith)),
-          (λ b. (omega arith, lt-of-lt-of-le (ltb-true _ _ b) (omega arith)),
-          (λ _. (omega arith, omega arith),
-          (λ b. (omega arith, lt-of-lt-of-le (ltb-true _ _ b) (omega arith)),
-          (λ b. (omega arith, lt-of-lt-of-le (ltb-true _ _ b) (omega arith)), tt))))))
+          (
+            λ b. (omega arith, lt-of-lt-of-le (ltb-true _ _ b) (omega arith)),
+            (
+              λ b. (omega arith, lt-of-lt-of-le (ltb-true _ _ b) (omega arith)),
+              (
+                λ _. (omega arith, omega arith),
+                (
+                  λ b. (omega arith, lt-of-lt-of-le (ltb-true _ _ b) (omega arith)),
+                  (λ b. (omega arith, lt-of-lt-of-le (ltb-true _ _ b) (omega arith)), tt),
+                ),
+              ),
+            ),
+          ),
+        )
 
 -- the same of an answer that is a refusal
 pub built-told : (plan buffer : List ℕ) (a : Built) (n p : ℕ) → a ≡ buildAnswer plan buffer → a ≡ Refused n p → (n ≤ 16) × (p < 65536)

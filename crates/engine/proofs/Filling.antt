@@ -76,10 +76,10 @@ module _ (s : Seats) (h : Holding) (held : Held s h) (sources pool : ℕ) (is-so
     low = λ g t. ltb→lt g (s .m) (subst T (is-all g) (and-left (bit all g) _ (subst T (is-k g) t)));
     full =
         let cert = fill-certificate (s .n) (seatOf s) (holder (h .owner)) R (held .sound) (out .closed none)
-            (λ t l. out .gains none t l (subst⁻¹ T (is-sources t) (lt→ltb t (s .n) l))) kept in
+        (λ t l. out .gains none t l (subst⁻¹ T (is-sources t) (lt→ltb t (s .n) l))) kept in
         let outside = size-same (s .m) {A = complement (bit k)} {B = R} (record { at = λ g l. to-R g l }) (record { at = λ g l. from-R g l }) in
         let worths = sum-same (s .n) (λ t. worth (seatOf s t) (complement R)) (λ t. worth (seatOf s t) (bit k))
-            (λ t _. worth-same (seatOf s t) {S = complement R} {S′ = bit k} (record { at = λ g l. to-k g l }) (record { at = λ g l. from-k g l })) in
+        (λ t _. worth-same (seatOf s t) {S = complement R} {S′ = bit k} (record { at = λ g l. to-k g l }) (record { at = λ g l. from-k g l })) in
         omega arith;
   }
     where

@@ -58,10 +58,13 @@ module _ (trace : Trace) (end g k : ℕ) (item to item′ to′ : List ℕ) (f :
 
   -- each of the stored moves leads to the next
   steps : (j : ℕ) → j < k → (getD (trace .parent) (getD item′ j 0) 0 < 64) × (getD item′ (j + 1) 0 ≡ getD (trace .parent) (getD item′ j 0) 0)
-  steps j l = (rw (old j l) (f .step j l .0), elim (ℕ-discrete (j + 1) k) [
-    | yes e ↦ ap (λ (x : ℕ). getD item′ x 0) e ∙ here ∙ f .next j e ∙ ap (λ (x : ℕ). getD (trace .parent) x 0) (sym (old j l))
-    | no d ↦ old (j + 1) (omega arith) ∙ f .step j l .1 (omega arith) ∙ ap (λ (x : ℕ). getD (trace .parent) x 0) (sym (old j l))
-  ])
+  steps j l = (
+    rw (old j l) (f .step j l .0),
+    elim (ℕ-discrete (j + 1) k) [
+      | yes e ↦ ap (λ (x : ℕ). getD item′ x 0) e ∙ here ∙ f .next j e ∙ ap (λ (x : ℕ). getD (trace .parent) x 0) (sym (old j l))
+      | no d ↦ old (j + 1) (omega arith) ∙ f .step j l .1 (omega arith) ∙ ap (λ (x : ℕ). getD (trace .parent) x 0) (sym (old j l))
+    ],
+  )
 
   pub following-more : (p : ℕ) → p ≡ getD (trace .parent) g 0 → p < 64 → k < 63 → Following trace end p (k + 1) item′ to′
   following-more p is l few = record {

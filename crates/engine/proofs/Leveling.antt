@@ -54,25 +54,29 @@ above-none bundles targets = record { at = λ j. (λ t. absurd (T-not (bit 0 j) 
 
 module _ (bundles targets : List ℕ) (n r : ℕ) (h : Above bundles targets n r) where
   pub above-take : (next : ℕ) → getD targets n 0 < wordSize bundles n → ((j : ℕ) → bit next j ≡ (bit r ∪ bit (getD bundles n 0)) j) → Above bundles targets (n + 1) next
-  above-take next more is = record { at = λ j. (
-    λ t. elim (or-cases (bit r j) (bit (getD bundles n 0) j) (subst T (is j) t)) [
-      | inl old ↦ let (t, l, rest) = h .at j .0 old in (t, omega arith, rest)
-      | inr new ↦ (n, omega arith, (more, new))
-    ],
-    λ (t, l, rest). subst⁻¹ T (is j) (elim (ℕ-discrete t n) [
-      | yes e ↦ follows₂ (λ a b. b) (λ a b. a || b) tt (bit r j) (bit (getD bundles n 0) j) (subst (λ (t : ℕ). T (bit (getD bundles t 0) j)) e (rest .1))
-      | no d ↦ follows₂ (λ a b. a) (λ a b. a || b) tt (bit r j) (bit (getD bundles n 0) j) (h .at j .1 (t, omega arith, rest))
-    ]),
-  ) }
+  above-take next more is = record {
+    at = λ j. (
+      λ t. elim (or-cases (bit r j) (bit (getD bundles n 0) j) (subst T (is j) t)) [
+        | inl old ↦ let (t, l, rest) = h .at j .0 old in (t, omega arith, rest)
+        | inr new ↦ (n, omega arith, (more, new))
+      ],
+      λ (t, l, rest). subst⁻¹ T (is j) (elim (ℕ-discrete t n) [
+        | yes e ↦ follows₂ (λ a b. b) (λ a b. a || b) tt (bit r j) (bit (getD bundles n 0) j) (subst (λ (t : ℕ). T (bit (getD bundles t 0) j)) e (rest .1))
+        | no d ↦ follows₂ (λ a b. a) (λ a b. a || b) tt (bit r j) (bit (getD bundles n 0) j) (h .at j .1 (t, omega arith, rest))
+      ]),
+    );
+  }
 
   pub above-skip : wordSize bundles n ≤ getD targets n 0 → Above bundles targets (n + 1) r
-  above-skip few = record { at = λ j. (
-    λ t. let (t, l, rest) = h .at j .0 t in (t, omega arith, rest),
-    λ (t, l, rest). elim (ℕ-discrete t n) [
-      | yes e ↦ let more = subst (λ (t : ℕ). getD targets t 0 < wordSize bundles t) e (rest .0) in absurd (omega arith)
-      | no d ↦ h .at j .1 (t, omega arith, rest)
-    ],
-  ) }
+  above-skip few = record {
+    at = λ j. (
+      λ t. let (t, l, rest) = h .at j .0 t in (t, omega arith, rest),
+      λ (t, l, rest). elim (ℕ-discrete t n) [
+        | yes e ↦ let more = subst (λ (t : ℕ). getD targets t 0 < wordSize bundles t) e (rest .0) in absurd (omega arith)
+        | no d ↦ h .at j .1 (t, omega arith, rest)
+      ],
+    );
+  }
 
 -- ---- one chain
 

@@ -39,7 +39,7 @@ use Rattle.engine.specs.Share.{Counted, Parted, ShareOf}
 pub counted : (h : Holding) (all pool rest r : ℕ) → h .m ≤ 64 → ((j : ℕ) → bit all j ≡ under (h .m) j) → Pool h (h .m) pool → ((j : ℕ) → bit rest j ≡ (bit all ∖ bit pool) j) → r ≡ size 64 (bit rest) → Counted h r
 unfolding holderOf
 counted h all pool rest r small is-all is-pool is-rest e = record {
-  is = e ∙ ap (size 64) (fun-ext (λ j. is-rest j ∙ step j (ltb j (h .m)) (ltb (holder (h .owner) j) (h .n)) (is-all j) (is-pool .at j))) ∙ size-under 64 (h .m) (λ g. ltb (holder (h .owner) g) (h .n)) small
+  is = e ∙ ap (size 64) (fun-ext (λ j. is-rest j ∙ step j (ltb j (h .m)) (ltb (holder (h .owner) j) (h .n)) (is-all j) (is-pool .at j))) ∙ size-under 64 (h .m) (λ g. ltb (holder (h .owner) g) (h .n)) small;
 }
   where
     step : (j : ℕ) (a b : Bool) → bit all j ≡ a → bit pool j ≡ (a && not b) → (bit all ∖ bit pool) j ≡ (b && a)
@@ -55,7 +55,7 @@ given-count s h r hd c =
     let sums = sum-bundles (s .m) (s .n) (holder (h .owner)) (λ g. true) in
     let all = size-same (s .m) {A = λ g. ltb (holder (h .owner) g) (s .n)} {B = held (s .n) (holder (h .owner)) ∩ (λ g. true)} (inter-most within-refl (record { at = λ k l t. tt })) (inter-left (held (s .n) (holder (h .owner))) (λ g. true)) in
     let each = sum-same (s .n) (λ t. size (s .m) (bundle (holder (h .owner)) t ∩ (λ g. true))) (λ t. size (s .m) (bundle (holder (h .owner)) t))
-        (λ t _. size-same (s .m) {A = bundle (holder (h .owner)) t ∩ (λ g. true)} {B = bundle (holder (h .owner)) t} (inter-left (bundle (holder (h .owner)) t) (λ g. true)) (inter-most within-refl (record { at = λ k l t. tt }))) in
+    (λ t _. size-same (s .m) {A = bundle (holder (h .owner)) t ∩ (λ g. true)} {B = bundle (holder (h .owner)) t} (inter-left (bundle (holder (h .owner)) t) (λ g. true)) (inter-most within-refl (record { at = λ k l t. tt }))) in
     let count = c .is in
     let same : size (h .m) (λ g. ltb (holder (h .owner) g) (h .n)) ≡ size (s .m) (λ g. ltb (holder (h .owner) g) (s .n)) = rw (hd .m, hd .n) refl in
     omega arith
@@ -166,10 +166,12 @@ module _ (m n : ℕ) (team : Team) (small : m ≤ 64) (some : 1 ≤ n) (few : n 
 
     -- a seat's bundle lies in its part
     in-part : (t : ℕ) → t < n → Within m (bundle (holder (h .owner)) t) (bundle cutOf t)
-    in-part t l = record { at = λ g b x.
-        let own = owner-at g b in
-        let o = eqb→eq (holder (h .owner) g) t x in
-        eq→eqb (cutOf g) t (parted .team g (omega arith) (omega arith) ∙ own ∙ o) }
+    in-part t l = record {
+      at = λ g b x.
+          let own = owner-at g b in
+          let o = eqb→eq (holder (h .owner) g) t x in
+          eq→eqb (cutOf g) t (parted .team g (omega arith) (omega arith) ∙ own ∙ o);
+    }
 
     fair : (t : ℕ) → t < n → s ≤ worth M (bundle cutOf t)
     fair t l =

@@ -49,18 +49,20 @@ module _ {m : ℕ} (M : Matroid m) (A B : Set) (same : (k : ℕ) → k < m → A
 pub exchanges-at : (m : ℕ) (team : Team) (set g seen cut free fresh r : ℕ) → ((k : ℕ) → bit cut k ≡ without (bit set) g k)
     → (matroidOf m team .Indep (bit cut) → Gains (matroidOf m team) (bit cut) free)
     → ((k : ℕ) → bit fresh k ≡ (bit free k && not (bit set k))) → ((k : ℕ) → bit r k ≡ (bit fresh k && not (bit seen k))) → Exchanges m team set g seen r
-exchanges-at m team set g seen cut free fresh r is-cut gains is-fresh is-r = record { at = λ i x.
-    let M = matroidOf m team in
-    let g′ = gains (M .part (record { at = λ k l t. and-left (bit set k) _ (subst T (is-cut k) t) }) i) in
-    let alike : x < m → Fits M (bit cut) x ↔ Fits M (without (bit set) g) x = λ l. fits-alike M (bit cut) (without (bit set) g) (λ k _. is-cut k) x l in (
-      λ t.
-          let u = subst T (is-r x) t in
-          let v = subst T (is-fresh x) (and-left (bit fresh x) _ u) in
-          let (l, f) = g′ .at x .0 (and-left (bit free x) _ v) in
-          (l, and-right (bit fresh x) _ u, (and-right (bit free x) _ v, alike l .0 f .1)),
-      λ (l, new, (o, j)).
-          subst⁻¹ T (is-r x) (both (bit fresh x) _ (subst⁻¹ T (is-fresh x) (both (bit free x) _ (g′ .at x .1 (l, alike l .1 (follows₂ (λ a e. not a) (λ a e. not (a && not e)) tt (bit set x) (eqb x g) o, j))) o)) new),
-    ) }
+exchanges-at m team set g seen cut free fresh r is-cut gains is-fresh is-r = record {
+  at = λ i x.
+      let M = matroidOf m team in
+      let g′ = gains (M .part (record { at = λ k l t. and-left (bit set k) _ (subst T (is-cut k) t) }) i) in
+      let alike : x < m → Fits M (bit cut) x ↔ Fits M (without (bit set) g) x = λ l. fits-alike M (bit cut) (without (bit set) g) (λ k _. is-cut k) x l in (
+        λ t.
+            let u = subst T (is-r x) t in
+            let v = subst T (is-fresh x) (and-left (bit fresh x) _ u) in
+            let (l, f) = g′ .at x .0 (and-left (bit free x) _ v) in
+            (l, and-right (bit fresh x) _ u, (and-right (bit free x) _ v, alike l .0 f .1)),
+        λ (l, new, (o, j)).
+            subst⁻¹ T (is-r x) (both (bit fresh x) _ (subst⁻¹ T (is-fresh x) (both (bit free x) _ (g′ .at x .1 (l, alike l .1 (follows₂ (λ a e. not a) (λ a e. not (a && not e)) tt (bit set x) (eqb x g) o, j))) o)) new),
+      );
+}
 
 -- ---- the words of the bundles
 

@@ -105,7 +105,11 @@ pub fn search(s: Seats, owner: [u8; 64], bundles: [u64; 12], sources: u64, targe
     let mut trace = roots(s, owner, bundles, sources);
     let hit = sets::lowest(sets::both(trace.seen, target));
     if hit < 64 {
-        return Reached { found: true, end: hit, trace };
+        return Reached {
+            found: true,
+            end: hit,
+            trace,
+        };
     }
     let mut scanned: u64 = 0;
     let mut todo = trace.seen;

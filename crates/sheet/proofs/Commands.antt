@@ -1,7 +1,7 @@
 -- The first fault of each command, from the bytes and from the answers for its pieces.
-use Prim.Native.Nat.{ℕ, suc, _+_, _*_, _-_, _^_, _≤_, _<_}
+use Prim.Native.Nat.{ℕ, _+_, _*_, _-_, _^_, _≤_, _<_}
 use mathlib.Core.Path.{_≡_, refl, sym, ap, _∙_}
-use mathlib.Core.Bool.{Bool, true, false, _||_, cond}
+use mathlib.Core.Bool.{Bool, true, false, _||_}
 use mathlib.Core.Logic.{_≢_}
 use mathlib.Core.List.{List, [], _∷_, _++_}
 use native.Mathlib.Omega.{arith}
@@ -9,7 +9,7 @@ use lib.Dec.{eqb, ltb}
 use lib.ListN.{length, getD, length-append}
 use borrow.Author.Tests.{lt-ltb, le-ltb, eq-eqb, ne-eqb}
 use Rattle.matroid.specs.Cuts.{each}
-use Rattle.sheet.specs.Form.{Test, is, below, holder, any, command, head, give, part, page, set, setByte, firstFault}
+use Rattle.sheet.specs.Form.{Test, is, holder, command, part, page, set, setByte, firstFault}
 use Rattle.sheet.proofs.Faults.{Passes, fault-done, fault-stop, fault-to, length-each, each-none, each-stop, each-next, each-done}
 
 module _ (s : List ℕ) where

@@ -1,13 +1,13 @@
 -- A sheet passes the tests of its form exactly where the facts about its bytes hold.
-use Prim.Native.Nat.{ℕ, suc, _+_, _-_, _*_, _^_, _≤_, _<_}
-use mathlib.Core.Path.{_≡_, refl, sym, ap, _∙_, subst}
+use Prim.Native.Nat.{ℕ, suc, _+_, _*_, _≤_, _<_}
+use mathlib.Core.Path.{_≡_, refl, sym, _∙_, subst}
 use mathlib.Core.Bool.{Bool, true, false, cond}
 use mathlib.Core.List.{List, [], _∷_, _++_}
 use native.Mathlib.Omega.{arith}
 use lib.ListN.{length, getD, length-append}
 use borrow.Author.Tests.{eq-eqb, eqb-true, lt-ltb, ltb-true}
 use Rattle.matroid.specs.Cuts.{each}
-use Rattle.sheet.specs.Layout.{lengthOf, shareStart, end-last}
+use Rattle.sheet.specs.Layout.{lengthOf, shareStart}
 use Rattle.sheet.specs.Form.{Test, is, below, holder, any, command, head, give, bound, share, part, page, end, set, setByte, form, firstFault}
 use Rattle.sheet.specs.Formed.{SetFormed, Formed}
 use Rattle.sheet.proofs.Faults.{Passes, fault-to, passes-both, passes-left, passes-right, length-each, each-at, each-all}

@@ -1,7 +1,7 @@
 -- The loop that puts each instrument of a row into the word of what it goes to.
 use Prim.Native.Nat.{ℕ, _+_, _<_, _≤_}
 use mathlib.Core.Path.{_≡_, refl, sym, ap, _∙_}
-use mathlib.Core.Bool.{Bool, _&&_, _||_, true, or-true, or-false}
+use mathlib.Core.Bool.{Bool, _&&_, true, or-true, or-false}
 use mathlib.Core.Logic.{_≢_}
 use mathlib.Core.List.{List}
 use native.Mathlib.Omega.{arith}

@@ -2,13 +2,13 @@
 use Prim.Native.Nat.{ℕ, suc, _+_, _*_, _≤_, _<_}
 use mathlib.Core.Path.{_≡_, refl, sym, ap, _∙_}
 use mathlib.Core.Logic.{_≢_}
-use mathlib.Core.List.{List, [], _∷_, _++_}
+use mathlib.Core.List.{List, [], _++_}
 use native.Mathlib.Omega.{arith}
 use native.Mathlib.Nat.{mul-le-mul-right}
 use lib.ListN.{length, getD}
 use borrow.Author.Tests.{eq-eqb, ne-eqb}
 use Rattle.matroid.specs.Cuts.{each}
-use Rattle.sheet.specs.Form.{Test, is, head, give, bound, page, end, form, firstFault}
+use Rattle.sheet.specs.Form.{is, head, give, bound, page, end, form, firstFault}
 use Rattle.sheet.proofs.Faults.{Passes, fault-to, length-each, each-none, each-stop, each-next, each-done}
 use Rattle.sheet.proofs.Commands.{fault-here, fault-past, fault-end, piece-stop, piece-past, set-length, page-length}
 

@@ -1,4 +1,3 @@
-use mathlib.Core.Path.{_≡_, refl, sym, _∙_}
 use native.Mathlib.Omega.{arith}
 use Rattle.checker.proofs.Verdicts.{judge-read, judge-11, judge-12, judge-rest}
 use Rattle.checker.proofs.judge.Statement.{statement}

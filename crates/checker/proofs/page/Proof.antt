@@ -1,5 +1,3 @@
-use Prim.Native.Nat.{_≤_, _*_, _+_, _-_}
-use mathlib.Core.Path.{_≡_, refl}
 use mathlib.Core.Logic.{⊎-elim}
 use native.Mathlib.Omega.{arith}
 use Rattle.plan.proofs.Bounds.{valid-reading}

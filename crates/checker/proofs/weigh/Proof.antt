@@ -1,5 +1,3 @@
-use Prim.Native.Nat.{_≤_, _*_, _+_, _-_}
-use mathlib.Core.Path.{_≡_, refl}
 use native.Mathlib.Omega.{arith}
 use Rattle.sheet.proofs.Sizes.{end-inside}
 use Rattle.checker.proofs.Shared.{stretch-long}

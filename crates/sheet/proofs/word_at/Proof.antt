@@ -1,5 +1,4 @@
 use Prim.Native.Nat.{_≤_, _<_, _+_, _-_}
-use mathlib.Core.Path.{_≡_}
 use native.Mathlib.Omega.{arith}
 use lib.ListN.{getD}
 use Rattle.sheet.proofs.Numbers.{Read, read-none, read-word, read-more, read-done}

@@ -1,6 +1,5 @@
 use Prim.Native.Nat.{_≤_, _-_}
 use mathlib.Core.Path.{_≡_, refl}
-use native.Mathlib.Omega.{arith}
 use Rattle.checker.proofs.Divided.{Independent, indep-none, indep-next, indep-stop, indep-done}
 use borrow.Author.Needs.{needs}
 use Rattle.checker.proofs.division.first_dependent.Statement.{statement}

@@ -1,5 +1,4 @@
-use Prim.Native.Nat.{_≤_, _-_, _+_, _*_, _<_}
-use mathlib.Core.Path.{_≡_}
+use Prim.Native.Nat.{_≤_, _-_}
 use native.Mathlib.Omega.{arith}
 use Rattle.sheet.proofs.Sizes.{share-inside}
 use Rattle.checker.proofs.Shared.{Enough, enough-none, enough-next, enough-stop, enough-done}

@@ -1,5 +1,4 @@
 use Prim.Native.Nat.{_≤_, _-_}
-use native.Mathlib.Omega.{arith}
 use Rattle.kinds.specs.Teams.{matroidOf}
 use Rattle.checker.proofs.Shared.{Reached, reached-none, reached-next, reached-stop, reached-done}
 use borrow.Author.Needs.{needs}

@@ -1,5 +1,5 @@
-use Prim.Native.Nat.{ℕ, _≤_, _*_, _+_}
-use mathlib.Core.Path.{_≡_, sym, ap, _∙_}
+use Prim.Native.Nat.{ℕ, _≤_, _+_}
+use mathlib.Core.Path.{sym, ap, _∙_}
 use native.Mathlib.Omega.{arith}
 use Rattle.matroid.specs.Set.{complement, size-le}
 use Rattle.sets.specs.Bits.{bit}

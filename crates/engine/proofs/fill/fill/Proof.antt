@@ -54,19 +54,19 @@ chain-requires : tie.Need-chain-requires Inv-loop μ-loop
 chain-requires c κs = search needs
 
 loop-less : tie.Need-loop-less Inv-loop μ-loop
-loop-less c = 
-        let f = c .before .before .before .before .before .search .ensures .found (not-false _ (c .before .before .if1 .left)) in
-        let zero : 0 < c .before .before .before .before .before .before .before .before .before .before .before .before .args .s .n = omega (arith, c .before .before .before .before .before .before .before .before .before .before .before .before .pre .some) in
-        let a : Advanced (c .before .before .before .before .before .before .before .before .before .before .before .before .args .s) (c .before .before .before .before .before .before .before .before .before .loop .h) (c .before .before .before .before .before .before .before .before .before .before .before .all-below .result) (c .before .before .before .before .before .search .result .end) (c .chain .result) = rw (c .chain .ensures) (advances _ _ (c .before .before .before .before .before .before .before .before .before .loop .inv) _ _ _ (f .0) (f .1) _ (c .before .moves-back .ensures) 0 zero (subst⁻¹ T (c .before .before .before .before .before .before .before .before .before .before .before .all-below .ensures 0) (lt→ltb 0 _ zero))) in
-        let more = given-more (c .before .before .before .before .before .before .before .before .before .before .before .before .args .s) (c .before .before .before .before .before .before .before .before .before .loop .h) (c .chain .result) _ _ a (pool-end _ _ (c .before .before .before .before .before .before .before .before .before .loop .inv) _ _ (c .before .before .before .before .before .before .before .before .before .before .before .all-below .ensures) (c .before .before .before .before .before .before .pool .ensures) _ (c .before .before .before .before .before .search .ensures) (f .2)) in
-        let most = given-le (c .before .before .before .before .before .before .before .before .before .before .before .before .args .s) (c .chain .result .owner) in
-        omega arith
+loop-less c =
+    let f = c .before .before .before .before .before .search .ensures .found (not-false _ (c .before .before .if1 .left)) in
+    let zero : 0 < c .before .before .before .before .before .before .before .before .before .before .before .before .args .s .n = omega (arith, c .before .before .before .before .before .before .before .before .before .before .before .before .pre .some) in
+    let a : Advanced (c .before .before .before .before .before .before .before .before .before .before .before .before .args .s) (c .before .before .before .before .before .before .before .before .before .loop .h) (c .before .before .before .before .before .before .before .before .before .before .before .all-below .result) (c .before .before .before .before .before .search .result .end) (c .chain .result) = rw (c .chain .ensures) (advances _ _ (c .before .before .before .before .before .before .before .before .before .loop .inv) _ _ _ (f .0) (f .1) _ (c .before .moves-back .ensures) 0 zero (subst⁻¹ T (c .before .before .before .before .before .before .before .before .before .before .before .all-below .ensures 0) (lt→ltb 0 _ zero))) in
+    let more = given-more (c .before .before .before .before .before .before .before .before .before .before .before .before .args .s) (c .before .before .before .before .before .before .before .before .before .loop .h) (c .chain .result) _ _ a (pool-end _ _ (c .before .before .before .before .before .before .before .before .before .loop .inv) _ _ (c .before .before .before .before .before .before .before .before .before .before .before .all-below .ensures) (c .before .before .before .before .before .before .pool .ensures) _ (c .before .before .before .before .before .search .ensures) (f .2)) in
+    let most = given-le (c .before .before .before .before .before .before .before .before .before .before .before .before .args .s) (c .chain .result .owner) in
+    omega arith
 
 loop-again : tie.Need-loop-again Inv-loop μ-loop
-loop-again c = 
-        let f = c .before .before .before .before .before .search .ensures .found (not-false _ (c .before .before .if1 .left)) in
-        let zero : 0 < c .before .before .before .before .before .before .before .before .before .before .before .before .args .s .n = omega (arith, c .before .before .before .before .before .before .before .before .before .before .before .before .pre .some) in
-        rw (c .chain .ensures) (advances _ _ (c .before .before .before .before .before .before .before .before .before .loop .inv) _ _ _ (f .0) (f .1) _ (c .before .moves-back .ensures) 0 zero (subst⁻¹ T (c .before .before .before .before .before .before .before .before .before .before .before .all-below .ensures 0) (lt→ltb 0 _ zero)) .held)
+loop-again c =
+    let f = c .before .before .before .before .before .search .ensures .found (not-false _ (c .before .before .if1 .left)) in
+    let zero : 0 < c .before .before .before .before .before .before .before .before .before .before .before .before .args .s .n = omega (arith, c .before .before .before .before .before .before .before .before .before .before .before .before .pre .some) in
+    rw (c .chain .ensures) (advances _ _ (c .before .before .before .before .before .before .before .before .before .loop .inv) _ _ _ (f .0) (f .1) _ (c .before .moves-back .ensures) 0 zero (subst⁻¹ T (c .before .before .before .before .before .before .before .before .before .before .before .all-below .ensures 0) (lt→ltb 0 _ zero)) .held)
 
 pub fill-spec : {M : Type 1} → statement M
 fill-spec =

@@ -48,12 +48,14 @@ loop-less : tie.Need-loop-less Inv-loop μ-loop
 loop-less c = search needs
 
 loop-again : tie.Need-loop-again Inv-loop μ-loop
-loop-again c = 
-        let is = word-size (c .before .before .before .before .args .t1) (c .before .before .before .loop .t) _ (c .before .size .ensures) in
-        (search needs, ⊎-elim
-        (λ w. rw (w .2) (above-take _ _ _ _ (c .before .before .before .loop .inv .1) _ (rw is at (w .0 .taken)) (w .1 .ensures)))
-        (λ w. rw (w .1) (above-skip _ _ _ _ (c .before .before .before .loop .inv .1) (rw is at (w .0 .left))))
-        (c .if1 .came))
+loop-again c =
+    let is = word-size (c .before .before .before .before .args .t1) (c .before .before .before .loop .t) _ (c .before .size .ensures) in (
+      search needs,
+      ⊎-elim
+          (λ w. rw (w .2) (above-take _ _ _ _ (c .before .before .before .loop .inv .1) _ (rw is at (w .0 .taken)) (w .1 .ensures)))
+          (λ w. rw (w .1) (above-skip _ _ _ _ (c .before .before .before .loop .inv .1) (rw is at (w .0 .left))))
+          (c .if1 .came),
+    )
 
 returns : tie.Need-returns Inv-loop μ-loop
 returns c = let e : c .before .loop .t ≡ c .before .before .args .n = omega arith in rw e at (c .before .loop .inv .1)

@@ -49,20 +49,20 @@ chain-requires : tie.Need-chain-requires Inv-loop μ-loop
 chain-requires c κs = search needs
 
 loop-less : tie.Need-loop-less Inv-loop μ-loop
-loop-less c = 
-        let f = c .before .before .before .before .before .search .ensures .found (not-false _ (c .before .before .if2 .left)) in
-        let ready = ready-of (c .before .before .before .before .before .before .before .before .before .before .before .before .before .args .s) (c .before .before .before .before .before .before .before .before .before .before .before .before .loop .h) (c .before .before .before .before .before .before .before .before .before .before .bundles .result) (c .before .before .before .before .before .before .before .before .before .before .before .before .loop .inv .0) (c .before .before .before .before .before .before .before .before .before .before .bundles .ensures) in
-        let src = source-only _ _ (c .before .before .before .before .before .before .before .before .before .before .before .before .loop .inv .0) (c .before .before .before .before .before .before .before .before .before .before .bundles .result) (c .before .before .before .before .before .before .before .before .before .before .before .before .before .args .targets) ready _ _ _ (c .before .before .before .before .before .before .before .before .if1 .left) (c .before .before .before .before .before .before .before .before .before .first-short .ensures .short (c .before .before .before .before .before .before .before .before .if1 .left)) (c .before .before .before .before .before .before .before .only .ensures) (c .before .before .before .before .before .before .above .ensures) _ (c .before .before .before .before .before .search .ensures) in
-        let a : Advanced (c .before .before .before .before .before .before .before .before .before .before .before .before .before .args .s) (c .before .before .before .before .before .before .before .before .before .before .before .before .loop .h) (c .before .before .before .before .before .before .before .only .result) (c .before .before .before .before .before .search .result .end) (c .chain .result) = rw (c .chain .ensures) (advances _ _ (c .before .before .before .before .before .before .before .before .before .before .before .before .loop .inv .0) _ _ _ (f .0) (f .1) _ (c .before .moves-back .ensures) (c .before .before .before .before .before .before .before .before .before .first-short .result) (c .before .before .before .before .before .before .before .before .if1 .left) src) in
-        level-less _ _ (c .before .before .before .before .before .before .before .before .before .before .before .before .loop .inv .0) (c .before .before .before .before .before .before .before .before .before .before .bundles .result) _ ready _ _ _ (c .before .before .before .before .before .before .before .before .if1 .left) (c .before .before .before .before .before .before .before .before .before .first-short .ensures .short (c .before .before .before .before .before .before .before .before .if1 .left)) (c .before .before .before .before .before .before .before .only .ensures) (c .before .before .before .before .before .before .above .ensures) _ (c .before .before .before .before .before .search .ensures) (not-false _ (c .before .before .if2 .left)) _ a
+loop-less c =
+    let f = c .before .before .before .before .before .search .ensures .found (not-false _ (c .before .before .if2 .left)) in
+    let ready = ready-of (c .before .before .before .before .before .before .before .before .before .before .before .before .before .args .s) (c .before .before .before .before .before .before .before .before .before .before .before .before .loop .h) (c .before .before .before .before .before .before .before .before .before .before .bundles .result) (c .before .before .before .before .before .before .before .before .before .before .before .before .loop .inv .0) (c .before .before .before .before .before .before .before .before .before .before .bundles .ensures) in
+    let src = source-only _ _ (c .before .before .before .before .before .before .before .before .before .before .before .before .loop .inv .0) (c .before .before .before .before .before .before .before .before .before .before .bundles .result) (c .before .before .before .before .before .before .before .before .before .before .before .before .before .args .targets) ready _ _ _ (c .before .before .before .before .before .before .before .before .if1 .left) (c .before .before .before .before .before .before .before .before .before .first-short .ensures .short (c .before .before .before .before .before .before .before .before .if1 .left)) (c .before .before .before .before .before .before .before .only .ensures) (c .before .before .before .before .before .before .above .ensures) _ (c .before .before .before .before .before .search .ensures) in
+    let a : Advanced (c .before .before .before .before .before .before .before .before .before .before .before .before .before .args .s) (c .before .before .before .before .before .before .before .before .before .before .before .before .loop .h) (c .before .before .before .before .before .before .before .only .result) (c .before .before .before .before .before .search .result .end) (c .chain .result) = rw (c .chain .ensures) (advances _ _ (c .before .before .before .before .before .before .before .before .before .before .before .before .loop .inv .0) _ _ _ (f .0) (f .1) _ (c .before .moves-back .ensures) (c .before .before .before .before .before .before .before .before .before .first-short .result) (c .before .before .before .before .before .before .before .before .if1 .left) src) in
+    level-less _ _ (c .before .before .before .before .before .before .before .before .before .before .before .before .loop .inv .0) (c .before .before .before .before .before .before .before .before .before .before .bundles .result) _ ready _ _ _ (c .before .before .before .before .before .before .before .before .if1 .left) (c .before .before .before .before .before .before .before .before .before .first-short .ensures .short (c .before .before .before .before .before .before .before .before .if1 .left)) (c .before .before .before .before .before .before .before .only .ensures) (c .before .before .before .before .before .before .above .ensures) _ (c .before .before .before .before .before .search .ensures) (not-false _ (c .before .before .if2 .left)) _ a
 
 loop-again : tie.Need-loop-again Inv-loop μ-loop
-loop-again c = 
-        let f = c .before .before .before .before .before .search .ensures .found (not-false _ (c .before .before .if2 .left)) in
-        let ready = ready-of (c .before .before .before .before .before .before .before .before .before .before .before .before .before .args .s) (c .before .before .before .before .before .before .before .before .before .before .before .before .loop .h) (c .before .before .before .before .before .before .before .before .before .before .bundles .result) (c .before .before .before .before .before .before .before .before .before .before .before .before .loop .inv .0) (c .before .before .before .before .before .before .before .before .before .before .bundles .ensures) in
-        let src = source-only _ _ (c .before .before .before .before .before .before .before .before .before .before .before .before .loop .inv .0) (c .before .before .before .before .before .before .before .before .before .before .bundles .result) (c .before .before .before .before .before .before .before .before .before .before .before .before .before .args .targets) ready _ _ _ (c .before .before .before .before .before .before .before .before .if1 .left) (c .before .before .before .before .before .before .before .before .before .first-short .ensures .short (c .before .before .before .before .before .before .before .before .if1 .left)) (c .before .before .before .before .before .before .before .only .ensures) (c .before .before .before .before .before .before .above .ensures) _ (c .before .before .before .before .before .search .ensures) in
-        let a : Advanced (c .before .before .before .before .before .before .before .before .before .before .before .before .before .args .s) (c .before .before .before .before .before .before .before .before .before .before .before .before .loop .h) (c .before .before .before .before .before .before .before .only .result) (c .before .before .before .before .before .search .result .end) (c .chain .result) = rw (c .chain .ensures) (advances _ _ (c .before .before .before .before .before .before .before .before .before .before .before .before .loop .inv .0) _ _ _ (f .0) (f .1) _ (c .before .moves-back .ensures) (c .before .before .before .before .before .before .before .before .before .first-short .result) (c .before .before .before .before .before .before .before .before .if1 .left) src) in
-        (a .held, level-same _ _ (c .before .before .before .before .before .before .before .before .before .before .before .before .loop .inv .0) (c .before .before .before .before .before .before .before .before .before .before .bundles .result) (c .before .before .before .before .before .before .before .before .before .before .before .before .before .args .targets) ready _ _ _ (c .before .before .before .before .before .before .before .before .if1 .left) (c .before .before .before .before .before .before .before .before .before .first-short .ensures .short (c .before .before .before .before .before .before .before .before .if1 .left)) (c .before .before .before .before .before .before .before .only .ensures) (c .before .before .before .before .before .before .above .ensures) _ (c .before .before .before .before .before .search .ensures) (not-false _ (c .before .before .if2 .left)) _ a ∙ c .before .before .before .before .before .before .before .before .before .before .before .before .loop .inv .1)
+loop-again c =
+    let f = c .before .before .before .before .before .search .ensures .found (not-false _ (c .before .before .if2 .left)) in
+    let ready = ready-of (c .before .before .before .before .before .before .before .before .before .before .before .before .before .args .s) (c .before .before .before .before .before .before .before .before .before .before .before .before .loop .h) (c .before .before .before .before .before .before .before .before .before .before .bundles .result) (c .before .before .before .before .before .before .before .before .before .before .before .before .loop .inv .0) (c .before .before .before .before .before .before .before .before .before .before .bundles .ensures) in
+    let src = source-only _ _ (c .before .before .before .before .before .before .before .before .before .before .before .before .loop .inv .0) (c .before .before .before .before .before .before .before .before .before .before .bundles .result) (c .before .before .before .before .before .before .before .before .before .before .before .before .before .args .targets) ready _ _ _ (c .before .before .before .before .before .before .before .before .if1 .left) (c .before .before .before .before .before .before .before .before .before .first-short .ensures .short (c .before .before .before .before .before .before .before .before .if1 .left)) (c .before .before .before .before .before .before .before .only .ensures) (c .before .before .before .before .before .before .above .ensures) _ (c .before .before .before .before .before .search .ensures) in
+    let a : Advanced (c .before .before .before .before .before .before .before .before .before .before .before .before .before .args .s) (c .before .before .before .before .before .before .before .before .before .before .before .before .loop .h) (c .before .before .before .before .before .before .before .only .result) (c .before .before .before .before .before .search .result .end) (c .chain .result) = rw (c .chain .ensures) (advances _ _ (c .before .before .before .before .before .before .before .before .before .before .before .before .loop .inv .0) _ _ _ (f .0) (f .1) _ (c .before .moves-back .ensures) (c .before .before .before .before .before .before .before .before .before .first-short .result) (c .before .before .before .before .before .before .before .before .if1 .left) src) in
+    (a .held, level-same _ _ (c .before .before .before .before .before .before .before .before .before .before .before .before .loop .inv .0) (c .before .before .before .before .before .before .before .before .before .before .bundles .result) (c .before .before .before .before .before .before .before .before .before .before .before .before .before .args .targets) ready _ _ _ (c .before .before .before .before .before .before .before .before .if1 .left) (c .before .before .before .before .before .before .before .before .before .first-short .ensures .short (c .before .before .before .before .before .before .before .before .if1 .left)) (c .before .before .before .before .before .before .before .only .ensures) (c .before .before .before .before .before .before .above .ensures) _ (c .before .before .before .before .before .search .ensures) (not-false _ (c .before .before .if2 .left)) _ a ∙ c .before .before .before .before .before .before .before .before .before .before .before .before .loop .inv .1)
 
 pub level-spec : {M : Type 1} → statement M
 level-spec =

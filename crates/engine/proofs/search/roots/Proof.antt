@@ -72,11 +72,14 @@ loop-less : tie.Need-loop-less Inv-loop μ-loop
 loop-less c = search needs
 
 loop-again : tie.Need-loop-again Inv-loop μ-loop
-loop-again c = (search needs, λ owner ready. ⊎-elim
-        (λ w. rw (w .6, w .7) (roots-take (c .before .before .before .before .before .args .s) owner _ ready _ _ _ _ _ _ (c .before .before .before .loop .to) (w .4 .result) (getD (c .before .before .before .before .before .args .s .teams) (c .before .before .before .loop .t) filler) filler (c .before .before .loop-test .taken) (ready .teams-long) refl (c .before .before .before .loop .inv .1 owner ready)
-            (sym (c .before .member .ensures) ∙ w .0 .taken) (w .2 .ensures) (w .3 .ensures) (w .4 .ensures) (w .5 .ensures)))
-        (λ w. rw (w .1, w .2) (rooted-skip _ _ _ _ _ _ _ (c .before .before .before .loop .inv .1 owner ready) (subst⁻¹ (λ (b : Bool). T (not b)) (sym (c .before .member .ensures) ∙ w .0 .left) tt)))
-        (c .if1 .came))
+loop-again c = (
+  search needs,
+  λ owner ready. ⊎-elim
+      (λ w. rw (w .6, w .7) (roots-take (c .before .before .before .before .before .args .s) owner _ ready _ _ _ _ _ _ (c .before .before .before .loop .to) (w .4 .result) (getD (c .before .before .before .before .before .args .s .teams) (c .before .before .before .loop .t) filler) filler (c .before .before .loop-test .taken) (ready .teams-long) refl (c .before .before .before .loop .inv .1 owner ready)
+      (sym (c .before .member .ensures) ∙ w .0 .taken) (w .2 .ensures) (w .3 .ensures) (w .4 .ensures) (w .5 .ensures)))
+      (λ w. rw (w .1, w .2) (rooted-skip _ _ _ _ _ _ _ (c .before .before .before .loop .inv .1 owner ready) (subst⁻¹ (λ (b : Bool). T (not b)) (sym (c .before .member .ensures) ∙ w .0 .left) tt)))
+      (c .if1 .came),
+)
 
 returns : tie.Need-returns Inv-loop μ-loop
 returns c = let e : c .before .loop .t ≡ c .before .before .before .args .s .n = omega arith in record { rooted = rw e at (c .before .loop .inv .1 _ (c .before .before .before .pre)); apart = λ x l. getD-replicate 64 x 255 0 l }

@@ -72,10 +72,14 @@ exchanges-requires : tie.Need-exchanges-requires Inv-loop μ-loop Inv-scan μ-sc
 exchanges-requires c κs = (c .before .before .before .before .before .before .before .before .before .before .before .pre .small, c .before .before .if2 .left)
 
 loop-holds : tie.Need-loop-holds Inv-loop μ-loop Inv-scan μ-scan
-loop-holds c = (search needs, c .before .before .before .before .scan .inv .0, ⊎-elim
-        (λ w. rw (w .3) (scan-start _ _ _ (c .before .before .before .before .before .before .before .before .before .before .pre) _ _ _ _ _ _ _ _ _ filler (going-rest _ _ _ (c .before .before .before .before .before .before .before .before .before .before .pre) _ _ _ _ _ (c .before .before .before .before .scan .inv .1) _ (c .before .before .before .rest .ensures)) (c .before .before .lowest2 .ensures .member (c .before .if2 .left)) (c .before .if2 .left) refl (w .0 .taken) refl (w .2 .ensures)))
-        (λ w. scan-pool _ _ _ (c .before .before .before .before .before .before .before .before .before .before .pre) _ _ _ _ _ _ _ _ (going-rest _ _ _ (c .before .before .before .before .before .before .before .before .before .before .pre) _ _ _ _ _ (c .before .before .before .before .scan .inv .1) _ (c .before .before .before .rest .ensures)) (c .before .before .lowest2 .ensures .member (c .before .if2 .left)) (c .before .if2 .left) refl (w .0 .left) (w .1))
-        (c .if3 .came))
+loop-holds c = (
+  search needs,
+  c .before .before .before .before .scan .inv .0,
+  ⊎-elim
+      (λ w. rw (w .3) (scan-start _ _ _ (c .before .before .before .before .before .before .before .before .before .before .pre) _ _ _ _ _ _ _ _ _ filler (going-rest _ _ _ (c .before .before .before .before .before .before .before .before .before .before .pre) _ _ _ _ _ (c .before .before .before .before .scan .inv .1) _ (c .before .before .before .rest .ensures)) (c .before .before .lowest2 .ensures .member (c .before .if2 .left)) (c .before .if2 .left) refl (w .0 .taken) refl (w .2 .ensures)))
+      (λ w. scan-pool _ _ _ (c .before .before .before .before .before .before .before .before .before .before .pre) _ _ _ _ _ _ _ _ (going-rest _ _ _ (c .before .before .before .before .before .before .before .before .before .before .pre) _ _ _ _ _ (c .before .before .before .before .scan .inv .1) _ (c .before .before .before .rest .ensures)) (c .before .before .lowest2 .ensures .member (c .before .if2 .left)) (c .before .if2 .left) refl (w .0 .left) (w .1))
+      (c .if3 .came),
+)
 
 member-requires : tie.Need-member-requires Inv-loop μ-loop Inv-scan μ-scan
 member-requires c κs = omega (arith, c .before .before .before .before .before .before .before .before .before .before .before .before .pre .small)
@@ -93,10 +97,14 @@ loop-less : tie.Need-loop-less Inv-loop μ-loop Inv-scan μ-scan
 loop-less c = search needs
 
 loop-again : tie.Need-loop-again Inv-loop μ-loop Inv-scan μ-scan
-loop-again c = (search needs, c .before .before .before .loop .inv .1, ⊎-elim
-        (λ w. rw (w .4) (scan-mark _ _ _ (c .before .before .before .before .before .before .before .before .before .before .before .before .before .before .pre) _ _ (c .before .before .before .loop .trace) _ _ _ _ _ (c .before .before .before .loop .inv .2) _ (w .1 .result) (c .before .before .before .before .before .if2 .left) refl (sym (c .before .member .ensures) ∙ w .0 .taken) (w .1 .ensures) (sym (w .2 .ensures) ∙ w .3 .left)))
-        (λ w. rw (w .1) (scan-skip _ _ _ (c .before .before .before .before .before .before .before .before .before .before .before .before .before .before .pre) _ _ (c .before .before .before .loop .trace) _ _ _ _ _ (c .before .before .before .loop .inv .2) (sym (c .before .member .ensures) ∙ w .0 .left)))
-        (c .if4 .came))
+loop-again c = (
+  search needs,
+  c .before .before .before .loop .inv .1,
+  ⊎-elim
+      (λ w. rw (w .4) (scan-mark _ _ _ (c .before .before .before .before .before .before .before .before .before .before .before .before .before .before .pre) _ _ (c .before .before .before .loop .trace) _ _ _ _ _ (c .before .before .before .loop .inv .2) _ (w .1 .result) (c .before .before .before .before .before .if2 .left) refl (sym (c .before .member .ensures) ∙ w .0 .taken) (w .1 .ensures) (sym (w .2 .ensures) ∙ w .3 .left)))
+      (λ w. rw (w .1) (scan-skip _ _ _ (c .before .before .before .before .before .before .before .before .before .before .before .before .before .before .pre) _ _ (c .before .before .before .loop .trace) _ _ _ _ _ (c .before .before .before .loop .inv .2) (sym (c .before .member .ensures) ∙ w .0 .left)))
+      (c .if4 .came),
+)
 
 with-requires : tie.Need-with-requires Inv-loop μ-loop Inv-scan μ-scan
 with-requires c κs = search needs
@@ -105,20 +113,20 @@ without-requires : tie.Need-without-requires Inv-loop μ-loop Inv-scan μ-scan
 without-requires c κs = search needs
 
 scan-less : tie.Need-scan-less Inv-loop μ-loop Inv-scan μ-scan
-scan-less c = 
-        let more = ones-with (c .before .before .before .before .before .before .before .before .scan .scanned) (c .before .with .result) (c .before .before .before .before .before .before .lowest2 .result) (c .before .before .before .before .before .if2 .left) (scan-new _ _ _ (c .before .before .before .before .before .before .before .before .before .before .before .before .before .before .pre) _ _ (c .before .before .before .loop .trace) _ _ _ _ _ (c .before .before .before .loop .inv .2)) (c .before .with .ensures) in
-        let most = ones-le (c .before .with .result) in
-        omega arith
+scan-less c =
+    let more = ones-with (c .before .before .before .before .before .before .before .before .scan .scanned) (c .before .with .result) (c .before .before .before .before .before .before .lowest2 .result) (c .before .before .before .before .before .if2 .left) (scan-new _ _ _ (c .before .before .before .before .before .before .before .before .before .before .before .before .before .before .pre) _ _ (c .before .before .before .loop .trace) _ _ _ _ _ (c .before .before .before .loop .inv .2)) (c .before .with .ensures) in
+    let most = ones-le (c .before .with .result) in
+    omega arith
 
 scan-again : tie.Need-scan-again Inv-loop μ-loop Inv-scan μ-scan
 scan-again c = (c .before .before .before .loop .inv .1, scan-end _ _ _ (c .before .before .before .before .before .before .before .before .before .before .before .before .before .before .pre) _ _ (c .before .before .before .loop .trace) _ _ _ _ _ (c .before .before .before .loop .inv .2) _ _ (c .before .before .loop-test .left) (c .before .with .ensures) (c .without .ensures))
 
 returns-2 : tie.Need-returns-2 Inv-loop μ-loop Inv-scan μ-scan
 returns-2 c = ⊎-elim
-        (λ w. rw (w .1, w .2) (outcome-none _ _ _ (c .before .before .before .before .before .before .before .before .before .pre) _ _ (c .before .before .before .scan .trace) _ _ _ _ _ (c .before .before .before .scan .inv .1) (c .before .before .rest .ensures) (c .before .lowest2 .ensures) (w .0 .taken) (c .before .before .before .scan .inv .0)))
-        (λ w. rw (w .9, w .10) (outcome-found _ _ _ (c .before .before .before .before .before .before .before .before .before .pre) _ _ (w .6 .result) _ (omega (arith, w .3 .taken, c .before .before .before .before .before .before .before .before .before .pre .small))
-            (scan-found _ _ _ (c .before .before .before .before .before .before .before .before .before .pre) _ _ (w .2 .trace) _ _ _ _ _ (w .2 .inv .2) _ (w .6 .result) (w .0 .left) refl (sym (w .4 .ensures) ∙ w .5 .taken) (w .6 .ensures) (sym (w .7 .ensures) ∙ w .8 .taken))))
-        (c .if2 .came)
+    (λ w. rw (w .1, w .2) (outcome-none _ _ _ (c .before .before .before .before .before .before .before .before .before .pre) _ _ (c .before .before .before .scan .trace) _ _ _ _ _ (c .before .before .before .scan .inv .1) (c .before .before .rest .ensures) (c .before .lowest2 .ensures) (w .0 .taken) (c .before .before .before .scan .inv .0)))
+    (λ w. rw (w .9, w .10) (outcome-found _ _ _ (c .before .before .before .before .before .before .before .before .before .pre) _ _ (w .6 .result) _ (omega (arith, w .3 .taken, c .before .before .before .before .before .before .before .before .before .pre .small))
+    (scan-found _ _ _ (c .before .before .before .before .before .before .before .before .before .pre) _ _ (w .2 .trace) _ _ _ _ _ (w .2 .inv .2) _ (w .6 .result) (w .0 .left) refl (sym (w .4 .ensures) ∙ w .5 .taken) (w .6 .ensures) (sym (w .7 .ensures) ∙ w .8 .taken))))
+    (c .if2 .came)
 
 pub search-spec : {M : Type 1} → statement M
 search-spec =

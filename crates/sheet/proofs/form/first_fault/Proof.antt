@@ -1,5 +1,3 @@
-use Prim.Native.Nat.{_≤_, _+_, _*_}
-use mathlib.Core.Path.{refl, sym}
 use native.Mathlib.Omega.{arith}
 use Rattle.sheet.proofs.Sizes.{end-inside}
 use Rattle.sheet.proofs.Pages.{form-head, form-gives, form-bound, form-pages}

@@ -1,5 +1,5 @@
 use Prim.Native.Nat.{_+_}
-use mathlib.Core.Path.{refl, sym, _∙_}
+use mathlib.Core.Path.{refl}
 use mathlib.Core.Logic.{⊎-elim}
 use Rattle.sheet.specs.Form.{holder}
 use Rattle.sheet.proofs.Commands.{command-stop, command-last, command-rest, fault-end, holder-none, holder-team, holder-pool}

@@ -1,5 +1,5 @@
-use Prim.Native.Nat.{ℕ, _≤_, _<_, _-_, _+_, _*_}
-use mathlib.Core.Path.{_≡_, refl, sym, ap}
+use Prim.Native.Nat.{ℕ, _≤_, _-_, _+_, _*_}
+use mathlib.Core.Path.{_≡_, refl, ap}
 use native.Mathlib.Omega.{arith}
 use Rattle.sheet.proofs.Sizes.{page-inside, end-inside}
 use Rattle.sheet.proofs.Pages.{PagesPass, pages-none, pages-stop, pages-next, pages-end-stop, pages-end}

@@ -1,0 +1,61 @@
+// Answers each line of standard input by one line. An empty line and one that starts with `#` come back as they are; any other
+// line is a verb and its operands. A plan and a sheet are written in hexadecimal, with a `/` between them.
+use libc::STDIN_FILENO;
+
+mod print;
+mod sheets;
+
+// Whether a line is empty or a note.
+fn is_note(line: &[u8]) -> bool {
+    if line.len() == 0 {
+        return true;
+    }
+    line[0] == b'#'
+}
+
+// Answers a line that is a verb and its operands: each verb has a branch here.
+fn perform(line: &[u8]) {
+    let verb = lines::word(line);
+    let operands = lines::rest(line);
+    if lines::same(verb, b"check") {
+        sheets::check(operands);
+        return;
+    }
+    if lines::same(verb, b"page") {
+        sheets::page(operands);
+        return;
+    }
+    if lines::same(verb, b"changes") {
+        sheets::changes(operands);
+        return;
+    }
+    print::text(b"UNKNOWN ");
+    print::text(verb);
+}
+
+// Answers a line.
+fn answer(line: &[u8]) {
+    if is_note(line) {
+        print::text(line);
+    } else {
+        perform(line);
+    }
+    print::text(b"\n");
+}
+
+// Answers each line of a text.
+fn run(text: &[u8]) {
+    let mut at: usize = 0;
+    while at < text.len() {
+        let end = lines::line_end(text, at);
+        answer(&text[at..end]);
+        at = end + 1;
+    }
+}
+
+// Of standard input the first 65,536 bytes are read.
+fn main() {
+    let mut space = io::large_buffer();
+    let n = io::read_full(STDIN_FILENO, &mut space);
+    run(&space[..n]);
+}
