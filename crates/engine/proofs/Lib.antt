@@ -4,6 +4,7 @@ pub mod Going
 pub mod Following
 pub mod Advance
 pub mod Sizes
+pub mod Greedily
 pub mod Filling
 pub mod Leveling
 pub mod Sharing

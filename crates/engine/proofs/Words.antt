@@ -3,19 +3,20 @@ use Prim.Native.Nat.{ℕ, suc, _+_, _≤_, _<_}
 use mathlib.Core.Path.{_≡_, refl, sym, ap, _∙_, subst, subst⁻¹}
 use mathlib.Core.Bool.{Bool, true, false, _&&_, _||_, not}
 use mathlib.Core.Logic.{_↔_}
-use mathlib.Core.List.{List}
+use mathlib.Core.List.{List, []}
 use native.Mathlib.Omega.{arith}
-use lib.Dec.{T, eqb, ltb, lt→ltb}
+use lib.Dec.{T, eqb, ltb, lt→ltb, T-not}
 use lib.ListN.{length, getD}
 use lib.Pow.{pow-pos}
 use borrow.Author.Tests.{lt-ltb}
 use Rattle.matroid.specs.Taut.{both, and-left, and-right, follows₂}
-use Rattle.matroid.specs.Set.{Set, with, without, Within, with-mono, swap-mono}
+use Rattle.matroid.specs.Set.{Set, with, without, under, Within, with-mono, swap-mono}
 use Rattle.matroid.specs.Matroid.{Matroid}
 use Rattle.matroid.specs.Exchange.{Fits, Swaps}
 use Rattle.matroid.specs.Division.{bundle}
 use Rattle.matroid.specs.Breadth.{Rooted, rooted-take}
 use Rattle.sets.specs.Bits.{bit}
+use Rattle.sets.specs.Lowest.{Lowest}
 use Rattle.sets.specs.Words.{bit-high}
 use Rattle.plan.specs.declared.Team.{Team}
 use Rattle.plan.proofs.Lists.{getD-any}
@@ -45,6 +46,10 @@ module _ {m : ℕ} (M : Matroid m) (A B : Set) (same : (k : ℕ) → k < m → A
   pub swaps-alike : (x y : ℕ) → y < m → Swaps M A x y ↔ Swaps M B x y
   swaps-alike x y l = (λ (o, i). (out y l .0 o, M .part (swap-mono x y to-left) i), λ (o, i). (out y l .1 o, M .part (swap-mono x y to-right) i))
 
+-- the empty word
+pub bit-none : (k : ℕ) → T (not (bit 0 k))
+bit-none k = subst⁻¹ (λ (b : Bool). T (not b)) (bit-high 0 k (pow-pos k)) tt
+
 -- what may join a bundle without g, outside the bundle and not seen, can take the place of g
 pub exchanges-at : (m : ℕ) (team : Team) (set g seen cut free fresh r : ℕ) → ((k : ℕ) → bit cut k ≡ without (bit set) g k)
     → (matroidOf m team .Indep (bit cut) → Gains (matroidOf m team) (bit cut) free)
@@ -62,6 +67,16 @@ exchanges-at m team set g seen cut free fresh r is-cut gains is-fresh is-r = rec
         λ (l, new, (o, j)).
             subst⁻¹ T (is-r x) (both (bit fresh x) _ (subst⁻¹ T (is-fresh x) (both (bit free x) _ (g′ .at x .1 (l, alike l .1 (follows₂ (λ a e. not a) (λ a e. not (a && not e)) tt (bit set x) (eqb x g) o, j))) o)) new),
       );
+}
+
+-- where everything below m is seen, nothing new can take the place of g
+pub exchanges-none : (m : ℕ) (team : Team) (set g seen all left low : ℕ) → m ≤ 64 → ((k : ℕ) → bit all k ≡ under m k)
+    → ((k : ℕ) → bit left k ≡ (bit all k && not (bit seen k))) → Lowest left low → 64 ≤ low → Exchanges m team set g seen 0
+exchanges-none m team set g seen all left low small is-all is-left lowest none = record {
+  at = λ i x. (
+    λ t. absurd (T-not (bit 0 x) (bit-none x) t),
+    λ (l, new, _). absurd (T-not (bit left x) (lowest .least x (omega arith)) (subst⁻¹ T (is-left x) (both (bit all x) _ (subst⁻¹ T (is-all x) (lt→ltb x m l)) new))),
+  );
 }
 
 -- ---- the words of the bundles
@@ -100,10 +115,10 @@ module _ (s : Seats) (owner bundles : List ℕ) (ready : Ready s owner bundles) 
       (λ x seen-x. assigned .old x (subst⁻¹ (λ (b : Bool). T (not b)) (is-fresh x) (follows₂ (λ f a. a) (λ f a. not (f && not a)) tt (bit free x) (bit seen x) seen-x)))
       (λ x f new. assigned .new x (let b = g .at x .0 f .0 in let small = ready .small in omega arith) (subst⁻¹ T (is-fresh x) (both (bit free x) _ f new)))
 
--- the empty word
-pub bit-none : (k : ℕ) → T (not (bit 0 k))
-bit-none k = subst⁻¹ (λ (b : Bool). T (not b)) (bit-high 0 k (pow-pos k)) tt
-
 -- seats by their parts
 abbrev pub seating : (m n : ℕ) → List Team → Seats
 seating m n teams = record { m = m; n = n; teams = teams }
+
+-- what stands past the end of an array of teams
+abbrev pub filler : Team
+filler = record { kind = 0; channels = 0; cap = []; class = []; first = []; second = [] }

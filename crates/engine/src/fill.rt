@@ -1,8 +1,9 @@
-// Fill: chains from any seat to the pool, until none is left.
+// Fill: from the greedy start, chains from any seat to the pool, until none is left.
 ghost use Prim.Native.Nat.{_≤_};
 ghost use Rattle.engine.specs.Fill.{Seated, Full};
 use super::Seats;
 use super::chains::moves_back;
+use super::greedy::greedy;
 use super::search::search;
 use holding::Holding;
 
@@ -19,7 +20,7 @@ pub fn fill(s: Seats) -> Filled
 {
     let m = s.m;
     let sources = sets::all_below(s.n);
-    let mut h = Holding::empty(m, s.n);
+    let mut h = greedy(s);
     loop {
         let owner = h.owner;
         let r = search(s, owner, h.bundles(), sources, h.pool());

@@ -4,6 +4,7 @@ use plan::Team;
 pub mod chains;
 pub mod divide;
 pub mod fill;
+pub mod greedy;
 pub mod level;
 pub mod search;
 pub mod share;

@@ -73,11 +73,14 @@ impl Trace {
     }
 }
 
-// The instruments not seen yet that can take the place of g in a bundle.
+// The instruments not seen yet that can take the place of g in a bundle. Where all are seen, nothing is asked of the team.
 fn exchanges(team: Team, m: usize, bundle: u64, g: usize, seen: u64) -> u64
     requires { ⌜ (m ≤ 64) × (g < 64) ⌝ }
     ensures { λ r. ⌜ Exchanges m team bundle g seen r ⌝ }
 {
+    if sets::lowest(sets::minus(sets::all_below(m), seen)) >= 64 {
+        return 0;
+    }
     let free = kinds::gains_of(team, m, sets::without(bundle, g));
     sets::minus(sets::minus(free, bundle), seen)
 }

@@ -9,7 +9,7 @@ use Rattle.engine.specs.Fill.{given}
 use Rattle.engine.specs.Chains.{Advanced}
 use Rattle.engine.proofs.Advance.{advances}
 use Rattle.engine.proofs.Sizes.{given-le, given-more}
-use Rattle.engine.proofs.Filling.{ready-of, held-empty, pool-end, fill-done}
+use Rattle.engine.proofs.Filling.{ready-of, pool-end, fill-done}
 use borrow.Author.Needs.{needs}
 use Rattle.engine.proofs.fill.fill.Statement.{statement}
 use Rattle.engine.proofs.fill.fill.Tie as tie
@@ -23,11 +23,11 @@ abbrev μ-loop : tie.MeasureT-loop
 all-below-requires : tie.Need-all-below-requires Inv-loop μ-loop
 all-below-requires c κs = search needs
 
-empty-requires : tie.Need-empty-requires Inv-loop μ-loop
-empty-requires c κs = search needs
+greedy-requires : tie.Need-greedy-requires Inv-loop μ-loop
+greedy-requires c κs = search needs
 
 loop-holds : tie.Need-loop-holds Inv-loop μ-loop
-loop-holds c = held-empty _ _ (c .before .before .pre) (c .empty .ensures)
+loop-holds c = c .greedy .ensures
 
 bundles-requires : tie.Need-bundles-requires Inv-loop μ-loop
 bundles-requires c κs = omega (arith, c .before .loop .inv .m, c .before .before .before .before .pre .small)
@@ -75,7 +75,7 @@ fill-spec =
     Inv-loop
     μ-loop
     all-below-requires
-    empty-requires
+    greedy-requires
     loop-holds
     bundles-requires
     pool-requires

@@ -1,16 +1,15 @@
 use Prim.Native.Nat.{ℕ, _≤_, _<_, _-_}
 use mathlib.Core.Path.{_≡_, refl, sym, _∙_, subst⁻¹}
 use mathlib.Core.Bool.{Bool, not}
-use mathlib.Core.List.{List, []}
+use mathlib.Core.List.{List}
 use mathlib.Core.Logic.{⊎-elim}
 use native.Mathlib.Omega.{arith}
 use lib.Dec.{T}
 use lib.ListN.{getD, getD-replicate}
-use Rattle.plan.specs.declared.Team.{Team}
 use Rattle.matroid.specs.Breadth.{Rooted, rooted-none, rooted-skip}
 use Rattle.sets.specs.Bits.{bit}
 use Rattle.engine.specs.Seats.{seatOf, holder, Ready}
-use Rattle.engine.proofs.Words.{roots-take, bit-none, seating}
+use Rattle.engine.proofs.Words.{roots-take, bit-none, seating, filler}
 use borrow.Author.Needs.{needs}
 use Rattle.engine.proofs.search.roots.Statement.{statement}
 use Rattle.engine.proofs.search.roots.Tie as tie
@@ -21,10 +20,6 @@ use Rattle.kinds.proofs.gains_of.Reads as gains-of-reads
 use Rattle.sets.proofs.either.Reads as either-reads
 use Rattle.sets.proofs.member.Reads as member-reads
 use Rattle.sets.proofs.minus.Reads as minus-reads
-
--- what stands past the end of an array of teams
-abbrev filler : Team
-filler = record { kind = 0; channels = 0; cap = []; class = []; first = []; second = [] }
 
 abbrev Inv-loop : tie.InvT-loop
 Inv-loop sources bundles m n teams seen₀ to₀ t₀ seen to t = (t ≤ n) × ((owner : List ℕ) → Ready (seating m n teams) owner bundles → Rooted n (seatOf (seating m n teams)) (holder owner) (bit sources) t (bit seen) (λ x. getD to x 0))
