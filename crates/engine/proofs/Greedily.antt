@@ -10,45 +10,22 @@ use lib.Dec.{T, eqb, eqb→eq, ltb, ltb→lt, lt→ltb, T-not}
 use lib.ListN.{length, getD, set, length-set}
 use lib.Seq.{getD-set-same, getD-set-other}
 use borrow.Author.Tests.{lt-ltb, ne-eqb, ltb-false}
-use Rattle.matroid.specs.Taut.{decide-T, T→true, T→false, both, and-left, and-right, or-cases, follows₂}
+use Rattle.matroid.specs.Taut.{decide-T, T→true, T→false, both, and-left, and-right}
 use Rattle.matroid.specs.Set.{with}
 use Rattle.matroid.specs.Matroid.{Matroid}
 use Rattle.matroid.specs.Chain.{Sound}
 use Rattle.matroid.specs.Division.{bundle}
 use Rattle.sets.specs.Bits.{bit}
-use Rattle.sets.specs.Lowest.{Lowest}
 use Rattle.plan.specs.declared.Team.{Team}
 use Rattle.plan.specs.Carry.{blankTeam}
 use Rattle.plan.proofs.Lists.{getD-any}
-use Rattle.kinds.specs.Teams.{matroidOf, Gains}
+use Rattle.kinds.specs.Teams.{matroidOf, Grown}
 use Rattle.holding.specs.declared.Holding.{Holding}
 use Rattle.holding.specs.Give.{holderOf, isInstrument, isTeam, gave, withOwner}
 use Rattle.holding.specs.Words.{Bundles, Pool}
 use Rattle.engine.specs.declared.Seats.{Seats}
 use Rattle.engine.specs.Seats.{seatOf, holder, Held}
-use Rattle.engine.specs.Greedy.{Grown, Offered, Handed}
-
--- ---- grown
-
-pub grown-none : (m : ℕ) (team : Team) (set from : ℕ) → Grown m team set from set
-grown-none m team set from = record { indep = λ i. i; old = λ j t. t; new = λ j t. inl t }
-
-pub grown-take : (m : ℕ) (team : Team) (set from r free common x next : ℕ) → Grown m team set from r
-    → (matroidOf m team .Indep (bit r) → Gains (matroidOf m team) (bit r) free) → ((j : ℕ) → bit common j ≡ (bit free j && bit from j))
-    → Lowest common x → x < 64 → ((j : ℕ) → bit next j ≡ with (bit r) x j) → Grown m team set from next
-grown-take m team set from r free common x next h gains is-common low l is = record {
-  indep = λ i.
-      let joins = gains (h .indep i) .at x .0 (and-left (bit free x) (bit from x) here) in
-      matroidOf m team .part (record { at = λ j _ t. subst T (is j) t }) (joins .1 .1);
-  old = λ j t. subst⁻¹ T (is j) (follows₂ (λ a b. a) (λ a b. a || b) tt (bit r j) (eqb j x) (h .old j t));
-  new = λ j t. elim (or-cases (bit r j) (eqb j x) (subst T (is j) t)) [
-    | inl before ↦ h .new j before
-    | inr e ↦ inr (subst⁻¹ (λ (k : ℕ). T (bit from k)) (eqb→eq j x e) (and-right (bit free x) (bit from x) here))
-  ];
-}
-  where
-    here : T (bit free x && bit from x)
-    here = subst T (is-common x) (low .member l)
+use Rattle.engine.specs.Greedy.{Offered, Handed}
 
 -- ---- handed
 
@@ -124,7 +101,7 @@ turn-first s h words pool held b p = record {
 }
 
 module _ (s : Seats) (t : ℕ) (h : Holding) (words : List ℕ) (pool : ℕ) (turn : Turn s t h words pool) (l : t < s .n) (team d : Team) (is-team : team ≡ getD (s .teams) t d)
-    (larger fresh : ℕ) (grown : Grown (s .m) team (getD words t 0) pool larger) (is-fresh : (j : ℕ) → bit fresh j ≡ (bit larger j && not (bit (getD words t 0) j))) where
+    (larger fresh : ℕ) (grown : Grown (matroidOf (s .m) team) (getD words t 0) pool larger) (is-fresh : (j : ℕ) → bit fresh j ≡ (bit larger j && not (bit (getD words t 0) j))) where
   few : s .n ≤ 12
   few = turn .held .few
 

@@ -6,16 +6,8 @@ use mathlib.Core.Logic.{_⊎_}
 use lib.Dec.{T}
 use lib.ListN.{length}
 use Rattle.sets.specs.Bits.{bit}
-use Rattle.plan.specs.declared.Team.{Team}
 use Rattle.holding.specs.declared.Holding.{Holding}
-use Rattle.kinds.specs.Teams.{matroidOf}
 use Rattle.engine.specs.Seats.{holder}
-
--- r has the members of a set and, besides, only members of another; it is independent where the set is
-pub record Grown (m : ℕ) (team : Team) (set from r : ℕ) : Type 0 where
-  pub indep : matroidOf m team .Indep (bit set) → matroidOf m team .Indep (bit r)
-  pub old : (j : ℕ) → T (bit set j) → T (bit r j)
-  pub new : (j : ℕ) → T (bit r j) → T (bit set j) ⊎ T (bit from j)
 
 -- t is a seat, and each of the fresh ones is an instrument of the pool
 pub record Offered (h : Holding) (t fresh : ℕ) : Type 0 where

@@ -23,7 +23,7 @@ use Rattle.kinds.specs.Loops.{loopsMatroid, loops-with}
 use Rattle.kinds.specs.Labels.{Labelled, apartTest}
 use Rattle.kinds.specs.ClassWords.{ClassWords, inWord, cappedSum, Room}
 use Rattle.kinds.specs.Teams.{noneOf, Gains}
-use Rattle.kinds.proofs.Labelling.{apart-bridges}
+use Rattle.kinds.proofs.Grouping.{grouped-labelled, apart-bridges}
 use Rattle.kinds.proofs.Below.{size-under}
 
 -- the empty word
@@ -48,7 +48,7 @@ module _ (N : Net) (A : Set) (m : ℕ) where
 
   module _ (label : List ℕ) (h : Labelled N A m label) (g free : ℕ) (f : Free N A m g free) (a b : ℕ) (is-a : a ≡ endA g) (is-b : b ≡ endB g) where
     test : T (apartTest label a b) ↔ Bridges N A m g
-    test = rw (is-a, is-b) (apart-bridges N A m g label h)
+    test = rw (is-a, is-b) (apart-bridges N A m g label (grouped-labelled N A m label h))
 
     pub free-take : (next : ℕ) → apartTest label a b ≡ true → ((j : ℕ) → bit next j ≡ with (bit free) g j) → Free N A m (g + 1) next
     free-take next t is = record {
@@ -103,7 +103,7 @@ module _ (m channels : ℕ) (small : m ≤ 64) (class : List ℕ) (cap : ℕ →
   classOf j = getD class j 255
 
   -- a word counts the members of its class
-  in-class : (c : ℕ) → c < 16 → inWord words set c ≡ count m classOf (bit set) c
+  pub in-class : (c : ℕ) → c < 16 → inWord words set c ≡ count m classOf (bit set) c
   unfolding inWord
   in-class c l = ap (size 64) (fun-ext (λ j. ap (λ (b : Bool). b && bit set j) (w .at c l j) ∙ turn (ltb j m) (eqb (classOf j) c) (bit set j))) ∙ size-under 64 m (bundle classOf c ∩ bit set) small
     where

@@ -1,19 +1,21 @@
 -- The tables of labels of LOOPS: what each gauge changes, and which gauges join two groups.
-use Prim.Native.Nat.{ℕ, suc, _+_, _<_}
+use Prim.Native.Nat.{ℕ, suc, _+_, _≤_, _<_}
 use mathlib.Core.Path.{_≡_, sym, ap, _∙_, subst}
 use mathlib.Core.Bool.{Bool, true, false, not}
-use mathlib.Core.Logic.{_≢_, _↔_, inl, inr}
+use mathlib.Core.Logic.{_↔_, inl, inr}
 use mathlib.Core.List.{List}
 use native.Mathlib.Omega.{arith}
 use native.Mathlib.Numerals.{add-one}
-use lib.Dec.{T, eqb, ltb, ltb→lt, lt→ltb, T-not, not-T}
+use lib.Dec.{T, eqb, ltb, ltb→lt, T-not, not-T}
 use lib.ListN.{getD}
 use Rattle.matroid.specs.Taut.{decide-T, T→true, T→false, and-three}
-use Rattle.matroid.specs.Set.{Set, one, size, ne→eqb, eqb→ne}
+use Rattle.matroid.specs.Set.{Set, one, size}
 use Rattle.kinds.specs.Net.{Net, spans, spans-iff, joints}
-use Rattle.kinds.specs.Groups.{labels, Bridges, no-bridge, labels-zero, labels-take, labels-skip, labels-within}
+use Rattle.kinds.specs.Groups.{run, labels, Bridges, no-bridge, labels-zero, labels-take, labels-skip, labels-within, labels-rest}
 use Rattle.kinds.specs.Labels.{Labelled, Relabelled, apartTest}
 use Rattle.kinds.specs.Accepted.{accepted, accepted-iff}
+use Rattle.kinds.proofs.Members.{Rests}
+use Rattle.kinds.proofs.Grouping.{grouped-labelled, apart-bridges}
 
 module _ (N : Net) (A : Set) where
   open Net N using (endA, endB)
@@ -22,31 +24,9 @@ module _ (N : Net) (A : Set) where
   pub labelled-none : (label : List ℕ) → ((j : ℕ) → j < 64 → getD label j 0 ≡ j) → Labelled N A 0 label
   labelled-none label own = record { at = λ j l. own j l ∙ sym (labels-zero N A j) }
 
-  -- the test tells whether a gauge joins two groups
-  pub apart-bridges : (n g : ℕ) (label : List ℕ) → Labelled N A n label → T (apartTest label (endA g) (endB g)) ↔ Bridges N A n g
-  unfolding joints
-  apart-bridges n g label h =
-      let a = endA g in
-      let b = endB g in
-      let tests = and-three (ltb a 64) (ltb b 64) (not (eqb (getD label a 0) (getD label b 0))) in (
-        λ t.
-            let (p, q, r) = tests .0 t in
-            let la = ltb→lt a 64 p in
-            let lb = ltb→lt b 64 q in
-            let differ : labels N A n a ≢ labels N A n b = λ e. eqb→ne (getD label a 0) (getD label b 0) r (h .at a la ∙ e ∙ sym (h .at b lb)) in
-            (spans-iff N g .1 (la, lb, λ e. differ (ap (labels N A n) e)), differ),
-        λ (s, differ).
-            let (la, lb, _) = spans-iff N g .0 s in
-            tests .1 (lt→ltb a 64 la, lt→ltb b 64 lb, ne→eqb (getD label a 0) (getD label b 0) (λ e. differ (sym (h .at a la) ∙ e ∙ h .at b lb))),
-      )
-
   module _ (g : ℕ) (label : List ℕ) (h : Labelled N A g label) (a b : ℕ) (is-a : a ≡ endA g) (is-b : b ≡ endB g) where
     test : T (apartTest label a b) ↔ Bridges N A g g
-    test = rw (is-a, is-b) (apart-bridges g g label h)
-
-    -- a gauge that is no member changes no label
-    pub labelled-out : A g ≡ false → Labelled N A (g + 1) label
-    labelled-out e = rw (add-one g) (record { at = λ j l. h .at j l ∙ sym (labels-skip N A g j (λ (t, s). subst T e t)) })
+    test = rw (is-a, is-b) (apart-bridges N A g g label (grouped-labelled N A g label h))
 
     -- a member that joins two groups makes their labels one
     pub labelled-take : (next : List ℕ) → A g ≡ true → apartTest label a b ≡ true → Relabelled label (getD label a 0) (getD label b 0) next → Labelled N A (g + 1) next
@@ -76,11 +56,16 @@ module _ (N : Net) (A : Set) where
     pub counted-take : (count : ℕ) → count ≡ size g (accepted N A) → A g ≡ true → apartTest label a b ≡ true → count + 1 ≡ size (g + 1) (accepted N A)
     counted-take count e m t = count-next count true e (T→true (accepted N A g) (accepted-iff N A g .1 (subst T (sym m) tt, test .0 (subst T (sym t) tt))))
 
-    pub counted-out : (count : ℕ) → count ≡ size g (accepted N A) → A g ≡ false → count ≡ size (g + 1) (accepted N A)
-    counted-out count e m = (let z = count-next count false e (T→false (accepted N A g) (not-T (accepted N A g) (λ t. subst T m (accepted-iff N A g .0 t .0)))) in omega arith)
-
     pub counted-within : (count : ℕ) → count ≡ size g (accepted N A) → apartTest label a b ≡ false → count ≡ size (g + 1) (accepted N A)
     counted-within count e f = (let z = count-next count false e (T→false (accepted N A g) (not-T (accepted N A g) (λ t. subst T f (test .1 (accepted-iff N A g .0 t .1))))) in omega arith)
+
+-- Where A has no member from `at` to g, neither labels nor count change on the way.
+module _ (N : Net) (A : Set) (g : ℕ) where
+  pub labelled-rests : (label : List ℕ) → Rests A g (λ n. Labelled N A n label)
+  labelled-rests label at l none h = record { at = λ j b. h .at j b ∙ labels-rest N A at g j l none }
+
+  pub counted-rests : (count : ℕ) → Rests A g (λ n. count ≡ size n (accepted N A))
+  counted-rests count at l none e = e ∙ run (λ k. size k (accepted N A)) at g l (λ k a b. let z = ap one (T→false (accepted N A k) (not-T (accepted N A k) (λ t. T-not (A k) (none k a b) (accepted-iff N A k .0 t .0)))) in omega arith)
 
 -- what the test passes are joints
 pub apart-below : (label : List ℕ) (a b : ℕ) (t : Bool) → t ≡ apartTest label a b → t ≡ true → (a < 64) × (b < 64)

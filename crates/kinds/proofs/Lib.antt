@@ -1,7 +1,10 @@
 pub mod Entries
 pub mod Relabel
 pub mod Below
+pub mod Members
+pub mod Grouping
 pub mod Labelling
 pub mod Joining
 pub mod Classes
+pub mod Larger
 pub mod Answers

@@ -3,7 +3,7 @@ pub mod Table
 use Prim.Native.Nat.{ℕ, _<_, _≤_}
 use mathlib.Core.Path.{_≡_, refl}
 use mathlib.Core.Bool.{true, false, cond}
-use mathlib.Core.Logic.{_↔_}
+use mathlib.Core.Logic.{_⊎_, _↔_}
 use mathlib.Core.List.{List}
 use native.Mathlib.Omega.{arith}
 use lib.Dec.{T, eqb, ltb}
@@ -48,6 +48,12 @@ matroidOf m team = cond (eqb (team .kind) capsKind) (capsOf m team) (cond (eqb (
 -- r holds exactly the instruments below m, outside A, that keep A independent
 pub record Gains {m : ℕ} (M : Matroid m) (A : Set) (r : ℕ) : Type 0 where
   pub at : (j : ℕ) → T (bit r j) ↔ ((j < m) × Fits M A j)
+
+-- r has the members of a set and, besides, only members of another; it is independent where the set is
+pub record Grown {m : ℕ} (M : Matroid m) (set from r : ℕ) : Type 0 where
+  pub indep : M .Indep (bit set) → M .Indep (bit r)
+  pub old : (j : ℕ) → T (bit set j) → T (bit r j)
+  pub new : (j : ℕ) → T (bit r j) → T (bit set j) ⊎ T (bit from j)
 
 -- team t of n, and a team of no kind where there is none
 abbrev pub teamAt : List Team → (n t : ℕ) → Team

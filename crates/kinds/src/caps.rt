@@ -4,7 +4,10 @@ ghost use Prim.Native.Nat.{_≤_, min};
 ghost use Rattle.matroid.specs.Matroid.{worth};
 ghost use Rattle.sets.specs.Bits.{bit};
 ghost use Rattle.kinds.specs.ClassWords.{ClassWords, cappedSum, Room};
-ghost use Rattle.kinds.specs.Teams.{capsOf, Gains};
+ghost use Rattle.kinds.specs.Teams.{capsOf, Gains, Grown};
+use super::growing::candidates;
+use super::growing::spare;
+use super::growing::wide;
 use plan::Team;
 
 // The instruments below m of each class.
@@ -78,4 +81,36 @@ pub fn gains(team: Team, m: usize, set: u64) -> u64
         return 0;
     }
     sets::minus(with_room(class_words(class, m), cap, set), set)
+}
+
+// An independent set of a CAPS team with members of another, in rising order, at most so many.
+pub fn grown(team: Team, m: usize, set: u64, from: u64, most: usize) -> u64
+    requires { ⌜ m ≤ 64 ⌝ }
+    ensures { λ r. ⌜ Grown (capsOf m team) set from r ⌝ }
+{
+    let class = team.class;
+    let cap = team.cap;
+    let words = class_words(class, m);
+    let channels = team.channels as usize;
+    let mut larger = set;
+    let mut room = spare(channels, m, set, most);
+    let mut left = candidates(m, set, from);
+    loop {
+        if room == 0 {
+            return larger;
+        }
+        let g = sets::lowest(left);
+        if g >= 64 {
+            return larger;
+        }
+        let c = wide(class[g]);
+        if c < 16 {
+            let limit = wide(cap[c]);
+            if sets::size(sets::both(words[c], larger)) < limit {
+                larger = sets::with(larger, g);
+                room -= 1;
+            }
+        }
+        left = sets::without(left, g);
+    }
 }

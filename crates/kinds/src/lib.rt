@@ -3,10 +3,11 @@ ghost use mathlib.Core.Path.{_≡_};
 ghost use Prim.Native.Nat.{_≤_};
 ghost use Rattle.matroid.specs.Matroid.{worth};
 ghost use Rattle.sets.specs.Bits.{bit};
-ghost use Rattle.kinds.specs.Teams.{matroidOf, teamAt, Gains, worthAnswer};
+ghost use Rattle.kinds.specs.Teams.{matroidOf, teamAt, Gains, Grown, worthAnswer};
 use plan::Team;
 
 pub mod caps;
+pub mod growing;
 pub mod loops;
 
 // What Worth answers.
@@ -43,6 +44,21 @@ pub fn gains_of(team: Team, m: usize, set: u64) -> u64
         return loops::gains(team, m, set);
     }
     0
+}
+
+// An independent set with members of another, at most so many, as long as one may join.
+pub fn grown(team: Team, m: usize, set: u64, from: u64, most: usize) -> u64
+    requires { ⌜ m ≤ 64 ⌝ }
+    ensures { λ r. ⌜ Grown (matroidOf m team) set from r ⌝ }
+{
+    let kind = team.kind;
+    if kind == 2 {
+        return caps::grown(team, m, set, from, most);
+    }
+    if kind == 3 {
+        return loops::grown(team, m, set, from, most);
+    }
+    set
 }
 
 // Team t of n, and a team of no kind where there is none.

@@ -59,14 +59,14 @@ loop-less c = search needs
 
 loop-again : tie.Need-loop-again Inv-loop μ-loop
 loop-again c =
-    let lf : length (c .before .before .before .before .before .before .before .before .before .before .before .before .args .team .first) ≡ 64 = search needs in
-    let ls : length (c .before .before .before .before .before .before .before .before .before .before .before .before .args .team .second) ≡ 64 = search needs in
-    let a = getD-any (c .before .before .before .before .before .before .before .before .before .before .before .before .args .team .first) (c .before .before .before .loop .g) 0 255 (omega arith) in
-    let b = getD-any (c .before .before .before .before .before .before .before .before .before .before .before .before .args .team .second) (c .before .before .before .loop .g) 0 255 (omega arith) in (
+    let lf : length (c .before .before .before .before .before .before .before .before .before .before .before .before .before .args .team .first) ≡ 64 = search needs in
+    let ls : length (c .before .before .before .before .before .before .before .before .before .before .before .before .before .args .team .second) ≡ 64 = search needs in
+    let a = getD-any (c .before .before .before .before .before .before .before .before .before .before .before .before .before .args .team .first) (c .before .before .before .before .loop .g) 0 255 (omega arith) in
+    let b = getD-any (c .before .before .before .before .before .before .before .before .before .before .before .before .before .args .team .second) (c .before .before .before .before .loop .g) 0 255 (omega arith) in (
       search needs,
       ⊎-elim
-          (λ w. rw (w .2) (free-take _ _ _ (c .before .before .before .before .labels-of .result) (c .before .before .before .before .labels-of .ensures) _ _ (c .before .before .before .loop .inv .1) _ _ a b _ (sym (c .before .apart .ensures) ∙ w .0 .taken) (w .1 .ensures)))
-          (λ w. rw (w .1) (free-skip _ _ _ (c .before .before .before .before .labels-of .result) (c .before .before .before .before .labels-of .ensures) _ _ (c .before .before .before .loop .inv .1) _ _ a b (sym (c .before .apart .ensures) ∙ w .0 .left)))
+          (λ w. rw (w .2) (free-take _ _ _ (c .before .before .before .before .before .labels-of .result) (c .before .before .before .before .before .labels-of .ensures) _ _ (c .before .before .before .before .loop .inv .1) _ _ a b _ (sym (c .before .apart .ensures) ∙ w .0 .taken) (w .1 .ensures)))
+          (λ w. rw (w .1) (free-skip _ _ _ (c .before .before .before .before .before .labels-of .result) (c .before .before .before .before .before .labels-of .ensures) _ _ (c .before .before .before .before .loop .inv .1) _ _ a b (sym (c .before .apart .ensures) ∙ w .0 .left)))
           (c .if2 .came),
     )
 

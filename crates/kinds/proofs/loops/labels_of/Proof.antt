@@ -1,37 +1,49 @@
-use Prim.Native.Nat.{_≤_, _<_, _-_}
+use Prim.Native.Nat.{_≤_, _<_}
 use mathlib.Core.Path.{_≡_, sym, _∙_}
 use mathlib.Core.Logic.{⊎-elim}
 use native.Mathlib.Omega.{arith}
 use lib.ListN.{length, getD}
+use Rattle.matroid.specs.Taut.{T→true}
+use Rattle.matroid.specs.Set.{size}
 use Rattle.plan.proofs.Lists.{getD-any}
 use Rattle.sets.specs.Bits.{bit}
 use Rattle.kinds.specs.Labels.{Labelled}
 use Rattle.kinds.specs.Net.{net}
-use Rattle.kinds.proofs.Labelling.{labelled-none, labelled-out, labelled-take, labelled-within, apart-below}
+use Rattle.kinds.proofs.Members.{Through, ahead-all, through-none, through-done, through-next, fewer}
+use Rattle.kinds.proofs.Labelling.{labelled-none, labelled-take, labelled-within, labelled-rests, apart-below}
 use borrow.Author.Needs.{needs}
 use Rattle.kinds.proofs.loops.labels_of.Statement.{statement}
 use Rattle.kinds.proofs.loops.labels_of.Tie as tie
 
 abbrev Inv-loop : tie.InvT-loop
-Inv-loop m set first second label₀ g₀ label g = (g ≤ m) × Labelled (net (λ i. getD first i 255) (λ i. getD second i 255)) (bit set) g label
+Inv-loop m set first second label₀ left₀ label left = Through (bit set) m left (λ n. Labelled (net (λ i. getD first i 255) (λ i. getD second i 255)) (bit set) n label)
 
 abbrev μ-loop : tie.MeasureT-loop
-μ-loop m set first second label₀ g₀ label g = m - g
+μ-loop m set first second label₀ left₀ label left = size 64 (bit left)
 
 own-labels-requires : tie.Need-own-labels-requires Inv-loop μ-loop
 own-labels-requires c κs = search needs
 
+all-below-requires : tie.Need-all-below-requires Inv-loop μ-loop
+all-below-requires c κs = search needs
+
+both-requires : tie.Need-both-requires Inv-loop μ-loop
+both-requires c κs = search needs
+
 loop-holds : tie.Need-loop-holds Inv-loop μ-loop
-loop-holds c = (search needs, labelled-none _ _ _ (c .own-labels .ensures))
+loop-holds c = through-none _ _ _ _ (ahead-all _ _ _ _ (c .before .all-below .ensures) (c .both .ensures)) (labelled-none _ _ _ (c .before .before .own-labels .ensures))
+
+lowest-requires : tie.Need-lowest-requires Inv-loop μ-loop
+lowest-requires c κs = search needs
+
+returns : tie.Need-returns Inv-loop μ-loop
+returns c = through-done _ _ _ _ _ (c .before .before .loop .inv) (c .before .lowest .ensures) (c .if1 .taken) (c .before .before .before .before .before .before .before .before .pre) (labelled-rests _ _ _ _)
 
 array-read-a : tie.Need-array-read-a Inv-loop μ-loop
 array-read-a c = search needs
 
 array-read-b : tie.Need-array-read-b Inv-loop μ-loop
 array-read-b c = search needs
-
-member-requires : tie.Need-member-requires Inv-loop μ-loop
-member-requires c κs = search needs
 
 apart-requires : tie.Need-apart-requires Inv-loop μ-loop
 apart-requires c κs = search needs
@@ -40,44 +52,36 @@ cast-relabelled : tie.Need-cast-relabelled Inv-loop μ-loop
 cast-relabelled c = search needs
 
 array-read-relabelled : tie.Need-array-read-relabelled Inv-loop μ-loop
-array-read-relabelled c = omega (arith, apart-below (c .before .before .before .before .before .loop .label) (getD (c .before .before .before .before .before .before .before .before .before .args .team .first) (c .before .before .before .before .before .loop .g) 0) (getD (c .before .before .before .before .before .before .before .before .before .args .team .second) (c .before .before .before .before .before .loop .g) 0) _ (c .before .apart .ensures) (c .if2 .taken))
+array-read-relabelled c = omega (arith, apart-below (c .before .before .before .before .before .loop .label) (getD (c .before .before .before .before .before .before .before .before .before .before .before .args .team .first) (c .before .before .before .before .lowest .result) 0) (getD (c .before .before .before .before .before .before .before .before .before .before .before .args .team .second) (c .before .before .before .before .lowest .result) 0) _ (c .before .apart .ensures) (c .if2 .taken))
 
 cast-relabelled-2 : tie.Need-cast-relabelled-2 Inv-loop μ-loop
 cast-relabelled-2 c = search needs
 
 array-read-relabelled-2 : tie.Need-array-read-relabelled-2 Inv-loop μ-loop
-array-read-relabelled-2 c = omega (arith, apart-below (c .before .before .before .before .before .loop .label) (getD (c .before .before .before .before .before .before .before .before .before .args .team .first) (c .before .before .before .before .before .loop .g) 0) (getD (c .before .before .before .before .before .before .before .before .before .args .team .second) (c .before .before .before .before .before .loop .g) 0) _ (c .before .apart .ensures) (c .if2 .taken))
+array-read-relabelled-2 c = omega (arith, apart-below (c .before .before .before .before .before .loop .label) (getD (c .before .before .before .before .before .before .before .before .before .before .before .args .team .first) (c .before .before .before .before .lowest .result) 0) (getD (c .before .before .before .before .before .before .before .before .before .before .before .args .team .second) (c .before .before .before .before .lowest .result) 0) _ (c .before .apart .ensures) (c .if2 .taken))
 
 relabelled-requires : tie.Need-relabelled-requires Inv-loop μ-loop
 relabelled-requires c κs = search needs
 
-add-g : tie.Need-add-g Inv-loop μ-loop
-add-g c = search needs
+without-requires : tie.Need-without-requires Inv-loop μ-loop
+without-requires c κs = search needs
 
 loop-less : tie.Need-loop-less Inv-loop μ-loop
-loop-less c = search needs
+loop-less c = fewer _ _ _ (c .before .before .before .before .before .lowest .ensures) (c .before .before .before .before .if1 .left) (c .without .ensures)
 
 loop-again : tie.Need-loop-again Inv-loop μ-loop
 loop-again c =
-    let l : c .before .before .before .loop .g < 64 = omega arith in
-    let lf : length (c .before .before .before .before .before .before .before .args .team .first) ≡ 64 = search needs in
-    let ls : length (c .before .before .before .before .before .before .before .args .team .second) ≡ 64 = search needs in
-    let a = getD-any (c .before .before .before .before .before .before .before .args .team .first) (c .before .before .before .loop .g) 0 255 (omega arith) in
-    let b = getD-any (c .before .before .before .before .before .before .before .args .team .second) (c .before .before .before .loop .g) 0 255 (omega arith) in
-    let h = c .before .before .before .loop .inv .1 in
-    let is = sym (c .before .member .ensures) in (
-      search needs,
-      ⊎-elim
-          (λ w. labelled-take _ _ _ (c .before .before .before .loop .label) h _ _ a b _ (is ∙ w .0 .taken) (sym (w .1 .ensures) ∙ w .2 .taken) (rw (w .4) (w .3 .ensures)))
-          (λ v. ⊎-elim
-          (λ w. rw (w .3) (labelled-within _ _ _ (c .before .before .before .loop .label) h _ _ a b (is ∙ w .0 .taken) (sym (w .1 .ensures) ∙ w .2 .left)))
-          (λ w. rw (w .1) (labelled-out _ _ _ (c .before .before .before .loop .label) h _ _ a b (is ∙ w .0 .left)))
-          v)
-          (c .if1 .came),
-    )
-
-returns : tie.Need-returns Inv-loop μ-loop
-returns c = let e : c .before .loop .g ≡ c .before .before .before .before .before .args .m = omega arith in rw e at (c .before .loop .inv .1)
+    let low = c .before .before .before .before .before .lowest .ensures in
+    let some = c .before .before .before .before .if1 .left in
+    let lf : length (c .before .before .before .before .before .before .before .before .before .before .before .before .args .team .first) ≡ 64 = search needs in
+    let ls : length (c .before .before .before .before .before .before .before .before .before .before .before .before .args .team .second) ≡ 64 = search needs in
+    let a = getD-any (c .before .before .before .before .before .before .before .before .before .before .before .before .args .team .first) (c .before .before .before .before .before .lowest .result) 0 255 (omega arith) in
+    let b = getD-any (c .before .before .before .before .before .before .before .before .before .before .before .before .args .team .second) (c .before .before .before .before .before .lowest .result) 0 255 (omega arith) in
+    through-next _ _ _ _ _ (c .before .before .before .before .before .before .loop .inv) low some _ (c .without .ensures) _ (labelled-rests _ _ _ _)
+    (λ member h. ⊎-elim
+    (λ w. labelled-take _ _ _ (c .before .before .before .before .before .before .loop .label) h _ _ a b _ (T→true _ member) (sym (c .before .before .apart .ensures) ∙ w .0 .taken) (rw (w .2) (w .1 .ensures)))
+    (λ w. rw (w .1) (labelled-within _ _ _ (c .before .before .before .before .before .before .loop .label) h _ _ a b (T→true _ member) (sym (c .before .before .apart .ensures) ∙ w .0 .left)))
+    (c .before .if2 .came))
 
 pub labels-of-spec : {M : Type 1} → statement M
 labels-of-spec =
@@ -86,17 +90,19 @@ labels-of-spec =
     Inv-loop
     μ-loop
     own-labels-requires
+    all-below-requires
+    both-requires
     loop-holds
+    lowest-requires
+    returns
     array-read-a
     array-read-b
-    member-requires
     apart-requires
     cast-relabelled
     array-read-relabelled
     cast-relabelled-2
     array-read-relabelled-2
     relabelled-requires
-    add-g
+    without-requires
     loop-less
-    loop-again
-    returns)
+    loop-again)
