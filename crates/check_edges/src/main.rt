@@ -1,17 +1,9 @@
 // Answers each line of standard input by one line. An empty line and one that starts with `#` come back as they are; any other
 // line is a verb and its operands. A plan and a sheet are written in hexadecimal, with a `/` between them.
 use libc::STDIN_FILENO;
+use lines::print;
 
-mod print;
 mod sheets;
-
-// Whether a line is empty or a note.
-fn is_note(line: &[u8]) -> bool {
-    if line.len() == 0 {
-        return true;
-    }
-    line[0] == b'#'
-}
 
 // Answers a line that is a verb and its operands: each verb has a branch here.
 fn perform(line: &[u8]) {
@@ -35,7 +27,7 @@ fn perform(line: &[u8]) {
 
 // Answers a line.
 fn answer(line: &[u8]) {
-    if is_note(line) {
+    if lines::is_note(line) {
         print::text(line);
     } else {
         perform(line);

@@ -1,31 +1,19 @@
 // The verbs that judge a sheet by a plan.
 ghost use Prim.Native.Nat.{_<_, _≤_};
 ghost use lib.ListN.{length};
-use super::print;
 use checker::Verdict;
-
-// What follows the first `/`, and nothing where there is none.
-fn second(operands: &[u8]) -> &[u8] {
-    let at = lines::find(operands, 0, b'/');
-    if at < operands.len() {
-        return &operands[at + 1..];
-    }
-    &operands[at..]
-}
+use lines::print;
 
 // `check PLAN / SHEET`: what Check answers.
 pub fn check(operands: &[u8]) {
     let mut plan = io::buffer();
     let mut sheet = io::buffer();
     let p = lines::decode(operands, &mut plan);
-    let s = lines::decode(second(operands), &mut sheet);
+    let s = lines::decode(lines::after(operands, b'/'), &mut sheet);
     let v = checker::check(&plan[..p], &sheet[..s]);
     match v {
         Verdict::Accepted => print::text(b"ACCEPTED"),
-        Verdict::Refused(number, place) => {
-            print::marked(b"REFUSED ", number);
-            print::marked(b" ", place);
-        }
+        Verdict::Refused(number, place) => print::refusal(number, place),
     }
 }
 
@@ -35,7 +23,7 @@ pub fn page(operands: &[u8]) {
     let mut sheet = io::buffer();
     let team = lines::number(operands);
     let p = lines::decode(lines::rest(operands), &mut plan);
-    let s = lines::decode(second(operands), &mut sheet);
+    let s = lines::decode(lines::after(operands, b'/'), &mut sheet);
     print::text(b"PAGE ");
     print::hex(checker::page(&plan[..p], &sheet[..s], team));
 }
@@ -48,16 +36,16 @@ fn change(plan: &[u8], sheet: &mut [u8], at: usize)
     let old = sheet[at];
     let mut number: usize = 256;
     let mut place: usize = 0;
-    print::marked(b"\nbyte ", at);
+    print::marked(b"\nbyte ", at as u64);
     for value in 0..256usize {
         sheet[at] = value as u8;
         let v = checker::check(plan, sheet);
         let now = checker::number(v);
         let here = checker::place(v);
         if now != number || here != place {
-            print::marked(b"; ", value);
-            print::marked(b" ", now);
-            print::marked(b" ", here);
+            print::marked(b"; ", value as u64);
+            print::marked(b" ", now as u64);
+            print::marked(b" ", here as u64);
         }
         number = now;
         place = here;
@@ -79,7 +67,7 @@ pub fn changes(operands: &[u8]) {
     let mut plan = io::buffer();
     let mut sheet = io::buffer();
     let p = lines::decode(operands, &mut plan);
-    let s = lines::decode(second(operands), &mut sheet);
+    let s = lines::decode(lines::after(operands, b'/'), &mut sheet);
     print::text(b"CHANGES");
     change_each(&plan[..p], &mut sheet[..s]);
 }

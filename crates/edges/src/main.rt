@@ -1,17 +1,14 @@
 // Answers each line of standard input by one line. An empty line and one that starts with `#` come back as they are; any other
 // line is a verb and its operands.
 use libc::STDIN_FILENO;
+use lines::print;
 
-mod print;
+mod building;
+mod giving;
+mod listing;
 mod reading;
-
-// Whether a line is empty or a note.
-fn is_note(line: &[u8]) -> bool {
-    if line.len() == 0 {
-        return true;
-    }
-    line[0] == b'#'
-}
+mod room;
+mod worth;
 
 // Answers a line that is a verb and its operands: each verb has a branch here and a module.
 fn perform(line: &[u8]) {
@@ -21,13 +18,29 @@ fn perform(line: &[u8]) {
         reading::answer(operands);
         return;
     }
+    if lines::same(verb, b"worth") {
+        worth::answer(operands);
+        return;
+    }
+    if lines::same(verb, b"build") {
+        building::answer(operands);
+        return;
+    }
+    if lines::same(verb, b"give") {
+        giving::answer(operands);
+        return;
+    }
+    if lines::same(verb, b"room") {
+        room::answer(operands);
+        return;
+    }
     print::text(b"UNKNOWN ");
     print::text(verb);
 }
 
 // Answers a line.
 fn answer(line: &[u8]) {
-    if is_note(line) {
+    if lines::is_note(line) {
         print::text(line);
     } else {
         perform(line);

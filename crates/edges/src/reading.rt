@@ -1,30 +1,30 @@
 // The verb `read HEX`: what reading a plan comes to.
-use crate::print;
+use lines::print;
 use plan::Reading;
 use plan::Team;
 
 // `class=cap`, where the cap is not 0.
 fn cap(class: usize, cap: u8) {
     if cap != 0 {
-        print::marked(b" ", class);
-        print::marked(b"=", cap as usize);
+        print::marked(b" ", class as u64);
+        print::marked(b"=", cap as u64);
     }
 }
 
 // `instrument:class`, where the instrument is in a class.
 fn put(instrument: usize, class: u8) {
     if class != 255 {
-        print::marked(b" ", instrument);
-        print::marked(b":", class as usize);
+        print::marked(b" ", instrument as u64);
+        print::marked(b":", class as u64);
     }
 }
 
 // `instrument:joint-joint`, where the instrument has a joint.
 fn span(instrument: usize, first: u8, second: u8) {
     if first != 255 || second != 255 {
-        print::marked(b" ", instrument);
-        print::marked(b":", first as usize);
-        print::marked(b"-", second as usize);
+        print::marked(b" ", instrument as u64);
+        print::marked(b":", first as u64);
+        print::marked(b"-", second as u64);
     }
 }
 
@@ -61,7 +61,7 @@ fn kind(byte: u8) {
 // A team: its kind and channels, and all that its tables hold, whichever kind it is.
 fn team(t: Team) {
     kind(t.kind);
-    print::marked(b" ", t.channels as usize);
+    print::marked(b" ", t.channels as u64);
     let cap = t.cap;
     let class = t.class;
     let first = t.first;
@@ -83,12 +83,11 @@ fn teams(n: usize, table: [Team; 12]) {
 // `REFUSED number place`, or `m n` and then each team after a semicolon.
 fn show(r: Reading) {
     if r.refusal != 0 {
-        print::marked(b"REFUSED ", r.refusal);
-        print::marked(b" ", r.place);
+        print::refusal(r.refusal, r.place);
         return;
     }
-    print::number(r.m);
-    print::marked(b" ", r.n);
+    print::marked(b"", r.m as u64);
+    print::marked(b" ", r.n as u64);
     let table = r.teams;
     teams(r.n, table);
 }

@@ -1,7 +1,17 @@
-// Lines of text as byte slices: their ends and words, and the numbers written in them.
+// Lines of text as byte slices: their ends and words, and the numbers written in them; and the printing of answers to them.
 ghost use Prim.Native.Nat.{_+_, _≤_, _<_};
 ghost use lib.ListN.{length};
 ghost use Rattle.io.specs.Counts.{Counts};
+
+pub mod print;
+
+// Whether a line is empty or a note.
+pub fn is_note(line: &[u8]) -> bool {
+    if line.len() == 0 {
+        return true;
+    }
+    line[0] == b'#'
+}
 
 // The index of the first `byte` from `from` on, and the length where there is none.
 pub fn find(text: &[u8], from: usize, byte: u8) -> usize
@@ -59,6 +69,23 @@ pub fn word(line: &[u8]) -> &[u8] {
 pub fn rest(line: &[u8]) -> &[u8] {
     let start = skip(line, word_end(line, 0), b' ');
     &line[start..]
+}
+
+// What follows the first `byte`, and nothing where there is none.
+pub fn after(text: &[u8], byte: u8) -> &[u8] {
+    let at = find(text, 0, byte);
+    if at < text.len() {
+        return &text[at + 1..];
+    }
+    &text[at..]
+}
+
+// The first n bytes, and all where there are fewer.
+pub fn front(bytes: &[u8], n: usize) -> &[u8] {
+    if n < bytes.len() {
+        return &bytes[0..n];
+    }
+    bytes
 }
 
 // Whether two slices hold the same bytes.

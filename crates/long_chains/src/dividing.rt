@@ -1,10 +1,9 @@
 // The verb `divide HEX`: the division of a plan as the weekly listing shows it.
 ghost use Prim.Native.Nat.{_≤_};
-use crate::print;
 use engine::Seats;
 use engine::divide::Division;
 use engine::share::Shared;
-use plan::Reading;
+use lines::print;
 use std::num::wrapping_add_u64;
 
 // How many of m instruments a table places with a team, not in the pool.
@@ -21,6 +20,18 @@ fn total(owner: [u8; 64], m: usize) -> u64 {
     count
 }
 
+// The instruments that a table places with p, rising, each after a space.
+fn placed(owner: [u8; 64], m: usize, p: usize) {
+    for g in 0..64usize {
+        let place = owner[g] as usize;
+        if g < m {
+            if place == p {
+                print::marked(b" ", g as u64);
+            }
+        }
+    }
+}
+
 // A line for each of n teams: its share and the instruments it holds.
 fn teams(owner: [u8; 64], shares: [Shared; 12], m: usize, n: usize) {
     for t in 0..12usize {
@@ -29,7 +40,7 @@ fn teams(owner: [u8; 64], shares: [Shared; 12], m: usize, n: usize) {
             print::marked(b"\nTEAM ", t as u64);
             print::marked(b" SHARE ", shared.share as u64);
             print::text(b" HOLDS");
-            print::placed(owner, m, t);
+            placed(owner, m, t);
         }
     }
 }
@@ -42,20 +53,14 @@ fn show(r: Division, m: usize, n: usize) {
     print::marked(b"TOTAL ", total(owner, m));
     teams(owner, shares, m, n);
     print::text(b"\nPOOL");
-    print::placed(owner, m, 255);
-}
-
-// `REFUSED`, the number and the place of a refusal.
-fn refused(r: Reading) {
-    print::marked(b"REFUSED ", r.refusal as u64);
-    print::marked(b" ", r.place as u64);
+    placed(owner, m, 255);
 }
 
 // Divides a plan.
 fn plan_of(file: &[u8]) {
     let r = plan::read(file);
     if r.refusal != 0 {
-        refused(r);
+        print::refusal(r.refusal, r.place);
         return;
     }
     let teams = r.teams;

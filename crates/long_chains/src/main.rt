@@ -1,17 +1,9 @@
 // Plans that need long chains, chains through several teams, or the shortest of several chains. Each line of standard input is answered
 // in turn. An empty line and one that starts with `#` come back as they are; any other line is a verb and its operands.
 use libc::STDIN_FILENO;
+use lines::print;
 
 mod dividing;
-mod print;
-
-// Whether a line is empty or a note.
-fn is_note(line: &[u8]) -> bool {
-    if line.len() == 0 {
-        return true;
-    }
-    line[0] == b'#'
-}
 
 // Answers a line that is a verb and its operands.
 fn perform(line: &[u8]) {
@@ -27,7 +19,7 @@ fn perform(line: &[u8]) {
 
 // Answers a line.
 fn answer(line: &[u8]) {
-    if is_note(line) {
+    if lines::is_note(line) {
         print::text(line);
     } else {
         perform(line);

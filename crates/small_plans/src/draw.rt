@@ -30,17 +30,17 @@ struct DrawnTeam {
 pub struct Drawing {
     pub m: usize,
     pub n: usize,
-    pub teams: [Team; 12],
+    pub teams: [Team; 3],
     pub x: u64,
 }
 
 // The number after x.
-fn next(x: u64) -> u64 {
+pub fn next(x: u64) -> u64 {
     x % 2147483647 * 48271 % 2147483647
 }
 
 // One of eight bytes.
-fn pick(x: u64, choice: [u8; 8]) -> u8 {
+pub fn pick(x: u64, choice: [u8; 8]) -> u8 {
     let k = (x / 256 % 8) as usize;
     choice[k]
 }
@@ -56,21 +56,24 @@ fn entries(x: u64, choice: [u8; 8]) -> Table {
     Table { bytes, x: at }
 }
 
-// The caps of eight classes; the others have cap 0.
+// The caps of classes 0 to 3; the others have cap 0.
 fn caps_of(bytes: [u8; 64]) -> [u8; 16] {
     let mut cap = [0u8; 16];
-    for c in 0..8usize {
+    for c in 0..4usize {
         cap[c] = bytes[c];
     }
     cap
 }
 
-// The second joint of a span: one after the drawn joint where that is the first.
+// The second joint of a span: none where there is no first one, and the joint after the first where the drawn one is no other joint.
 fn other(a: u8, b: u8) -> u8 {
-    if a != b {
+    if a > 63 {
+        return 255;
+    }
+    if a != b && b < 64 {
         return b;
     }
-    if b < 63 { b + 1 } else { 0 }
+    if a < 63 { a + 1 } else { 0 }
 }
 
 // Second joints, each different from the first.
@@ -143,10 +146,7 @@ pub fn drawn(f: Family, x: u64) -> Drawing
     let first = a.team;
     let second = b.team;
     let third = c.team;
-    let mut list = [plan::carry::blank(); 12];
-    list[0] = first;
-    list[1] = second;
-    list[2] = third;
+    let list = [first, second, third];
     let counts = f.counts;
     let sizes = f.teams;
     let y = next(c.x);

@@ -1,31 +1,79 @@
 // The greatest total over all divisions and the best cut over all cuts, by a search through all of them. Worths stand in a table:
 // 32 entries for each of four teams, by set; a team that is not in the plan has zeros.
 ghost use Prim.Native.Nat.{_≤_, _<_};
+use crate::draw::Drawing;
 use plan::Team;
 use std::num::wrapping_add_u64;
 
-// A worth as a byte, and 255 where it is greater.
-fn as_byte(worth: usize) -> u8 {
-    if worth < 255 { worth as u8 } else { 255 }
+// What the search finds of a plan of m instruments and n teams: the table of worths, the greatest total, the bundles of the first division
+// that comes to it, and each team's share.
+pub struct Found {
+    pub m: usize,
+    pub n: usize,
+    pub table: [u8; 128],
+    pub total: u64,
+    pub bundles: [u64; 4],
+    pub shares: [u64; 4],
+}
+
+// A size as a byte, and 255 where it is greater.
+fn as_byte(size: usize) -> u8 {
+    if size < 255 { size as u8 } else { 255 }
+}
+
+// Whether a team finds each set of five instruments independent; one with a member at or above m never is.
+fn independents(team: Team, m: usize) -> [bool; 32]
+    requires { ⌜ m ≤ 64 ⌝ }
+{
+    let all = sets::all_below(m);
+    let mut free = [false; 32];
+    for k in 0..32usize {
+        let set = k as u64;
+        if sets::minus(set, all) == 0 {
+            free[k] = rule::independent(team, set);
+        }
+    }
+    free
+}
+
+// The size of the largest independent part of a set.
+fn largest(free: [bool; 32], set: u64) -> usize {
+    let mut most: usize = 0;
+    for k in 0..32usize {
+        let part = k as u64;
+        let size = sets::size(part);
+        let inside = sets::minus(part, set) == 0;
+        if free[k] && inside && size > most {
+            most = size;
+        }
+    }
+    most
+}
+
+// Puts the worths of team t in the table.
+fn put_worths(table: &mut [u8; 128], t: usize, team: Team, m: usize)
+    requires { ⌜ (t < 4) × (m ≤ 64) ⌝ }
+{
+    let free = independents(team, m);
+    for k in 0..32usize {
+        table[t * 32 + k] = as_byte(largest(free, k as u64));
+    }
 }
 
 // What each set of five instruments is worth to each team.
-pub fn worths(teams: [Team; 12], m: usize, n: usize) -> [u8; 128]
+fn worths(teams: [Team; 3], m: usize, n: usize) -> [u8; 128]
     requires { ⌜ (m ≤ 64) × (n ≤ 3) ⌝ }
 {
     let mut table = [0u8; 128];
-    for k in 0..128usize {
-        let t = k / 32;
-        if t < n {
-            let team = teams[t];
-            table[k] = as_byte(kinds::worth_of(team, m, (k % 32) as u64));
-        }
+    for t in 0..n {
+        let team = teams[t];
+        put_worths(&mut table, t, team, m);
     }
     table
 }
 
 // A byte as a number.
-pub fn wide(byte: u8) -> u64
+fn wide(byte: u8) -> u64
     ensures { λ r. ⌜ r ≤ 255 ⌝ }
 {
     byte as u64
@@ -71,7 +119,7 @@ pub fn total(table: [u8; 128], bundle: [u64; 4]) -> u64 {
 }
 
 // What the worst of the first n parts is worth to team t.
-pub fn least(table: [u8; 128], t: usize, part: [u64; 4], n: usize) -> u64
+fn least(table: [u8; 128], t: usize, part: [u64; 4], n: usize) -> u64
     requires { ⌜ n ≤ 3 ⌝ }
 {
     let mut low: u64 = 255;
@@ -84,22 +132,24 @@ pub fn least(table: [u8; 128], t: usize, part: [u64; 4], n: usize) -> u64
     low
 }
 
-// The greatest total of all divisions among n teams and the pool.
-pub fn best_total(table: [u8; 128], n: usize) -> u64
+// The number of the first division among n teams and the pool that has the greatest total.
+fn best_division(table: [u8; 128], n: usize) -> usize
     requires { ⌜ n ≤ 3 ⌝ }
 {
+    let mut best: usize = 0;
     let mut most: u64 = 0;
     for number in 0..1024usize {
         let sum = total(table, parts(number, n + 1));
         if sum > most {
             most = sum;
+            best = number;
         }
     }
-    most
+    best
 }
 
 // The share of team t: the best of all cuts into n parts, by the worst part.
-pub fn best_share(table: [u8; 128], t: usize, n: usize) -> u64
+fn best_share(table: [u8; 128], t: usize, n: usize) -> u64
     requires { ⌜ (1 ≤ n) × (n ≤ 3) ⌝ }
 {
     let mut most: u64 = 0;
@@ -110,4 +160,33 @@ pub fn best_share(table: [u8; 128], t: usize, n: usize) -> u64
         }
     }
     most
+}
+
+// The share of each of n teams.
+fn best_shares(table: [u8; 128], n: usize) -> [u64; 4]
+    requires { ⌜ (1 ≤ n) × (n ≤ 3) ⌝ }
+{
+    let mut shares = [0u64; 4];
+    for t in 0..n {
+        shares[t] = best_share(table, t, n);
+    }
+    shares
+}
+
+// Searches through all divisions and all cuts of a plan.
+pub fn search(d: Drawing) -> Found
+    requires { ⌜ (d .m ≤ 5) × (1 ≤ d .n) × (d .n ≤ 3) ⌝ }
+    ensures { λ r. ⌜ (r .m ≤ 5) × (r .n ≤ 3) ⌝ }
+{
+    let teams = d.teams;
+    let table = worths(teams, d.m, d.n);
+    let bundles = parts(best_division(table, d.n), d.n + 1);
+    Found {
+        m: d.m,
+        n: d.n,
+        table,
+        total: total(table, bundles),
+        bundles,
+        shares: best_shares(table, d.n),
+    }
 }

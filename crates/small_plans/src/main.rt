@@ -1,21 +1,26 @@
-// Random plans of up to five instruments and three teams: the engine's divisions and shares beside a search through all divisions
-// and all cuts.
-use compare::Counts;
+// Random plans of up to five instruments and three teams: Build's sheets, and what Check says of them and of changed ones, beside a search
+// through all divisions and all cuts.
+use counts::Counts;
 use draw::Family;
+use lines::print;
 
+mod changes;
 mod compare;
+mod counts;
 mod draw;
+mod encode;
 mod exhaust;
-mod print;
+mod stated;
+mod trial;
 
 // CAPS teams with small caps.
 fn caps() -> Family {
     Family {
-        counts: [5, 5, 5, 5, 5, 4, 3, 2],
+        counts: [5, 5, 5, 5, 4, 3, 1, 0],
         teams: [3, 3, 3, 3, 2, 2, 2, 1],
         kinds: [2, 2, 2, 2, 2, 2, 2, 2],
-        channels: [1, 2, 2, 3, 3, 4, 5, 255],
-        classes: [0, 0, 1, 1, 2, 2, 3, 255],
+        channels: [0, 1, 2, 2, 3, 3, 5, 255],
+        classes: [0, 0, 1, 1, 2, 3, 4, 255],
         caps: [0, 1, 1, 1, 1, 2, 2, 3],
         joints: [0, 1, 2, 3, 0, 1, 2, 3],
     }
@@ -25,7 +30,7 @@ fn caps() -> Family {
 fn loops() -> Family {
     let mut f = caps();
     f.kinds = [3u8; 8];
-    f.joints = [0, 0, 1, 1, 2, 2, 3, 3];
+    f.joints = [0, 0, 1, 1, 2, 2, 3, 255];
     f
 }
 
@@ -34,7 +39,7 @@ fn mixed() -> Family {
     let mut f = caps();
     f.kinds = [2, 3, 2, 3, 2, 3, 2, 3];
     f.classes = [0, 0, 0, 1, 1, 2, 255, 255];
-    f.joints = [0, 0, 0, 1, 1, 2, 3, 3];
+    f.joints = [0, 0, 0, 1, 1, 2, 63, 255];
     f
 }
 
@@ -52,32 +57,14 @@ fn uneven() -> Family {
 
 // The counts of 1,000 plans of a family.
 fn counted(f: Family, seed: u64) -> Counts {
-    let mut c = compare::none();
+    let mut c = counts::none();
     let mut x = seed;
     for k in 0..1000usize {
         let d = draw::drawn(f, x);
         x = d.x;
-        c = compare::plus(c, compare::of_plan(d));
+        c = counts::plus(c, trial::run(d));
     }
     c
-}
-
-// One line for the plans, and one for what differs.
-fn show(c: Counts) {
-    print::marked(b"  plans ", c.plans);
-    print::marked(b", teams ", c.teams);
-    print::marked(b", totals ", c.totals);
-    print::marked(b", shares ", c.shares);
-    print::marked(b", plans levelled ", c.levelled);
-    print::marked(b", shares other than v(all) / n ", c.apart);
-    print::marked(b"\n  differences: totals ", c.wrong_totals);
-    print::marked(b", bundles ", c.dependent);
-    print::marked(b", bounds ", c.loose_totals);
-    print::marked(b", shares ", c.wrong_shares);
-    print::marked(b", cuts ", c.poor_cuts);
-    print::marked(b", share bounds ", c.loose_shares);
-    print::marked(b", short teams ", c.short);
-    print::text(b"\n");
 }
 
 // Counts and shows the plans of a family under its name, and hands back the counts of all so far.
@@ -85,15 +72,15 @@ fn run(name: &[u8], f: Family, seed: u64, before: Counts) -> Counts {
     let c = counted(f, seed);
     print::text(name);
     print::text(b"\n");
-    show(c);
-    compare::plus(before, c)
+    counts::show(c);
+    counts::plus(before, c)
 }
 
 fn main() {
-    let a = run(b"CAPS teams", caps(), 20201, compare::none());
+    let a = run(b"CAPS teams", caps(), 20201, counts::none());
     let b = run(b"LOOPS teams", loops(), 20202, a);
     let c = run(b"teams of both kinds", mixed(), 20203, b);
     let d = run(b"uneven teams", uneven(), 20204, c);
     print::text(b"all\n");
-    show(d);
+    counts::show(d);
 }

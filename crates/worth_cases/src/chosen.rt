@@ -1,7 +1,6 @@
 // The verb `team HEX`: a count of instruments, a kind, a set of eight bytes, and then commands as a plan has them, with any operands.
 ghost use Prim.Native.Nat.{_≤_};
-use crate::print;
-use crate::rule;
+use lines::print;
 use plan::Command;
 use plan::Team;
 
@@ -62,6 +61,15 @@ fn show_worth(team: Team, m: usize, set: u64)
     }
 }
 
+// The members of a set, rising, each after a space.
+fn members(set: u64) {
+    for g in 0..64usize {
+        if sets::member(set, g) {
+            print::marked(b" ", g as u64);
+        }
+    }
+}
+
 // What an independent set gains, with a mark where the definition says another.
 fn show_gains(team: Team, m: usize, set: u64)
     requires { ⌜ m ≤ 64 ⌝ }
@@ -72,7 +80,7 @@ fn show_gains(team: Team, m: usize, set: u64)
     }
     let answer = kinds::gains_of(team, m, set);
     print::text(b", gains");
-    print::set(answer);
+    members(answer);
     if answer != rule::gains(team, m, set) {
         print::text(b" DIFFERS");
     }

@@ -1,20 +1,11 @@
 // Worth and gains beside document 01's own words, on random teams and on chosen ones. Each line of standard input is answered by one
 // line. An empty line and one that starts with `#` come back as they are; any other line is a verb and its operands.
 use libc::STDIN_FILENO;
+use lines::print;
 
 mod chosen;
 mod draw;
 mod many;
-mod print;
-mod rule;
-
-// Whether a line is empty or a note.
-fn is_note(line: &[u8]) -> bool {
-    if line.len() == 0 {
-        return true;
-    }
-    line[0] == b'#'
-}
 
 // Answers a line that is a verb and its operands.
 fn perform(line: &[u8]) {
@@ -34,7 +25,7 @@ fn perform(line: &[u8]) {
 
 // Answers a line.
 fn answer(line: &[u8]) {
-    if is_note(line) {
+    if lines::is_note(line) {
         print::text(line);
     } else {
         perform(line);

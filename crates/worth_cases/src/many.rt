@@ -3,8 +3,7 @@ ghost use Prim.Native.Nat.{_≤_, _<_};
 use crate::draw;
 use crate::draw::Case;
 use crate::draw::Family;
-use crate::print;
-use crate::rule;
+use lines::print;
 use std::num::wrapping_add_u64;
 
 // Of the cases so far: the worths added up, the instruments gained, and how many answers differ from the definition's.

@@ -18,8 +18,8 @@ loop-holds c = search needs
 drawn-requires : tie.Need-drawn-requires Inv-loop μ-loop
 drawn-requires c κs = search needs
 
-of-plan-requires : tie.Need-of-plan-requires Inv-loop μ-loop
-of-plan-requires c κs = search needs
+run-requires : tie.Need-run-requires Inv-loop μ-loop
+run-requires c κs = search needs
 
 plus-requires : tie.Need-plus-requires Inv-loop μ-loop
 plus-requires c κs = search needs
@@ -45,7 +45,7 @@ counted-spec =
     none-requires
     loop-holds
     drawn-requires
-    of-plan-requires
+    run-requires
     plus-requires
     add-k
     loop-less

@@ -6,8 +6,8 @@ use Rattle.long_chains.proofs.dividing.plan_of.Tie as tie
 read-requires : tie.Need-read-requires
 read-requires c κs = search needs
 
-refused-requires : tie.Need-refused-requires
-refused-requires c κs = search needs
+refusal-requires : tie.Need-refusal-requires
+refusal-requires c κs = search needs
 
 returns : tie.Need-returns
 returns c = search needs
@@ -24,4 +24,4 @@ returns-2 c = search needs
 pub plan-of-spec : {M : Type 1} → statement M
 plan-of-spec =
     tie.close
-    (tie.spec read-requires refused-requires returns divide-requires show-requires returns-2)
+    (tie.spec read-requires refusal-requires returns divide-requires show-requires returns-2)

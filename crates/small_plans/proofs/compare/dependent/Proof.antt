@@ -4,10 +4,10 @@ use Rattle.small_plans.proofs.compare.dependent.Statement.{statement}
 use Rattle.small_plans.proofs.compare.dependent.Tie as tie
 
 abbrev Inv-loop : tie.InvT-loop
-Inv-loop table bundle count₀ t₀ count t = t ≤ 4
+Inv-loop table bundles count₀ t₀ count t = t ≤ 4
 
 abbrev μ-loop : tie.MeasureT-loop
-μ-loop table bundle count₀ t₀ count t = 4 - t
+μ-loop table bundles count₀ t₀ count t = 4 - t
 
 loop-holds : tie.Need-loop-holds Inv-loop μ-loop
 loop-holds c = search needs

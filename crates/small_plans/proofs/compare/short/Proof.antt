@@ -4,22 +4,13 @@ use Rattle.small_plans.proofs.compare.short.Statement.{statement}
 use Rattle.small_plans.proofs.compare.short.Tie as tie
 
 abbrev Inv-loop : tie.InvT-loop
-Inv-loop n bundle shares count₀ t₀ count t = t ≤ n
+Inv-loop bundles shares count₀ t₀ count t = t ≤ 4
 
 abbrev μ-loop : tie.MeasureT-loop
-μ-loop n bundle shares count₀ t₀ count t = n - t
+μ-loop bundles shares count₀ t₀ count t = 4 - t
 
 loop-holds : tie.Need-loop-holds Inv-loop μ-loop
 loop-holds c = search needs
-
-mul-shared : tie.Need-mul-shared Inv-loop μ-loop
-mul-shared c = search needs
-
-array-copy-out-shared : tie.Need-array-copy-out-shared Inv-loop μ-loop
-array-copy-out-shared c = search needs
-
-cast-share : tie.Need-cast-share Inv-loop μ-loop
-cast-share c = search needs
 
 mul-size : tie.Need-mul-size Inv-loop μ-loop
 mul-size c = search needs
@@ -29,6 +20,12 @@ array-read-size c = search needs
 
 size-requires : tie.Need-size-requires Inv-loop μ-loop
 size-requires c κs = search needs
+
+mul-if1 : tie.Need-mul-if1 Inv-loop μ-loop
+mul-if1 c = search needs
+
+array-read-if1 : tie.Need-array-read-if1 Inv-loop μ-loop
+array-read-if1 c = search needs
 
 wrapping-add-u64-requires : tie.Need-wrapping-add-u64-requires Inv-loop μ-loop
 wrapping-add-u64-requires c κs = search needs
@@ -52,12 +49,11 @@ short-spec =
     Inv-loop
     μ-loop
     loop-holds
-    mul-shared
-    array-copy-out-shared
-    cast-share
     mul-size
     array-read-size
     size-requires
+    mul-if1
+    array-read-if1
     wrapping-add-u64-requires
     add-t
     loop-less

@@ -4,10 +4,10 @@ use Rattle.small_plans.proofs.exhaust.worths.Statement.{statement}
 use Rattle.small_plans.proofs.exhaust.worths.Tie as tie
 
 abbrev Inv-loop : tie.InvT-loop
-Inv-loop m n teams table₀ k₀ table k = k ≤ 128
+Inv-loop m n teams table₀ t₀ table t = t ≤ n
 
 abbrev μ-loop : tie.MeasureT-loop
-μ-loop m n teams table₀ k₀ table k = 128 - k
+μ-loop m n teams table₀ t₀ table t = n - t
 
 loop-holds : tie.Need-loop-holds Inv-loop μ-loop
 loop-holds c = search needs
@@ -18,17 +18,11 @@ mul-team c = search needs
 array-copy-out-team : tie.Need-array-copy-out-team Inv-loop μ-loop
 array-copy-out-team c = search needs
 
-worth-of-requires : tie.Need-worth-of-requires Inv-loop μ-loop
-worth-of-requires c κs = search needs
+put-worths-requires : tie.Need-put-worths-requires Inv-loop μ-loop
+put-worths-requires c κs = search needs
 
-as-byte-requires : tie.Need-as-byte-requires Inv-loop μ-loop
-as-byte-requires c κs = search needs
-
-array-write-table : tie.Need-array-write-table Inv-loop μ-loop
-array-write-table c = search needs
-
-add-k : tie.Need-add-k Inv-loop μ-loop
-add-k c = search needs
+add-t : tie.Need-add-t Inv-loop μ-loop
+add-t c = search needs
 
 loop-less : tie.Need-loop-less Inv-loop μ-loop
 loop-less c = search needs
@@ -48,10 +42,8 @@ worths-spec =
     loop-holds
     mul-team
     array-copy-out-team
-    worth-of-requires
-    as-byte-requires
-    array-write-table
-    add-k
+    put-worths-requires
+    add-t
     loop-less
     loop-again
     returns)

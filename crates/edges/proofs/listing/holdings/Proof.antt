@@ -1,0 +1,61 @@
+use Prim.Native.Nat.{_≤_, _-_}
+use borrow.Author.Needs.{needs}
+use Rattle.edges.proofs.listing.holdings.Statement.{statement}
+use Rattle.edges.proofs.listing.holdings.Tie as tie
+
+abbrev Inv-loop : tie.InvT-loop
+Inv-loop sheet m team g₀ t5 g = g ≤ m
+
+abbrev μ-loop : tie.MeasureT-loop
+μ-loop sheet m team g₀ t5 g = m - g
+
+loop-holds : tie.Need-loop-holds Inv-loop μ-loop
+loop-holds c = search needs
+
+mul-byte-at : tie.Need-mul-byte-at Inv-loop μ-loop
+mul-byte-at c = search needs
+
+add-byte-at : tie.Need-add-byte-at Inv-loop μ-loop
+add-byte-at c = search needs
+
+add-byte-at-2 : tie.Need-add-byte-at-2 Inv-loop μ-loop
+add-byte-at-2 c = search needs
+
+byte-at-requires : tie.Need-byte-at-requires Inv-loop μ-loop
+byte-at-requires c κs = search needs
+
+slice-aggregate-marked : tie.Need-slice-aggregate-marked Inv-loop μ-loop
+slice-aggregate-marked c = search needs
+
+marked-requires : tie.Need-marked-requires Inv-loop μ-loop
+marked-requires c κs = search needs
+
+add-g : tie.Need-add-g Inv-loop μ-loop
+add-g c = search needs
+
+loop-less : tie.Need-loop-less Inv-loop μ-loop
+loop-less c = search needs
+
+loop-again : tie.Need-loop-again Inv-loop μ-loop
+loop-again c = search needs
+
+returns : tie.Need-returns Inv-loop μ-loop
+returns c = search needs
+
+pub holdings-spec : {M : Type 1} → statement M
+holdings-spec =
+    tie.close
+    (tie.spec
+    Inv-loop
+    μ-loop
+    loop-holds
+    mul-byte-at
+    add-byte-at
+    add-byte-at-2
+    byte-at-requires
+    slice-aggregate-marked
+    marked-requires
+    add-g
+    loop-less
+    loop-again
+    returns)

@@ -1,0 +1,102 @@
+// Counts over plans.
+use lines::print;
+use std::num::wrapping_add_u64;
+
+// What is counted. In the first group are the plans, in the second the sheets that Build writes, in the third sheets with one byte changed.
+pub struct Counts {
+    pub plans: u64,
+    pub teams: u64,
+    // plans whose first division with the greatest total leaves a team with less than its share
+    pub short_best: u64,
+    // teams whose share is not v(all) divided by n
+    pub apart: u64,
+
+    // sheets that Check accepts
+    pub accepted: u64,
+    // the totals and the shares that the sheets state, added up
+    pub totals: u64,
+    pub shares: u64,
+    // totals that are not the greatest, or not those of the bundles
+    pub wrong_totals: u64,
+    // bundles that are not independent
+    pub dependent: u64,
+    // shares that are not those of the best cut
+    pub wrong_shares: u64,
+    // teams that hold less than their share
+    pub short: u64,
+    // bytes beyond the sheet that are not as they were
+    pub beyond: u64,
+
+    pub changed: u64,
+    // those that Check accepts
+    pub changed_accepted: u64,
+    // those that Check accepts and the search does not confirm
+    pub changed_wrong: u64,
+}
+
+// Nothing counted.
+pub fn none() -> Counts {
+    Counts {
+        plans: 0,
+        teams: 0,
+        short_best: 0,
+        apart: 0,
+        accepted: 0,
+        totals: 0,
+        shares: 0,
+        wrong_totals: 0,
+        dependent: 0,
+        wrong_shares: 0,
+        short: 0,
+        beyond: 0,
+        changed: 0,
+        changed_accepted: 0,
+        changed_wrong: 0,
+    }
+}
+
+// 1 where something is so.
+pub fn one(so: bool) -> u64 {
+    if so { 1 } else { 0 }
+}
+
+// The counts of two lots together.
+pub fn plus(a: Counts, b: Counts) -> Counts {
+    Counts {
+        plans: wrapping_add_u64(a.plans, b.plans),
+        teams: wrapping_add_u64(a.teams, b.teams),
+        short_best: wrapping_add_u64(a.short_best, b.short_best),
+        apart: wrapping_add_u64(a.apart, b.apart),
+        accepted: wrapping_add_u64(a.accepted, b.accepted),
+        totals: wrapping_add_u64(a.totals, b.totals),
+        shares: wrapping_add_u64(a.shares, b.shares),
+        wrong_totals: wrapping_add_u64(a.wrong_totals, b.wrong_totals),
+        dependent: wrapping_add_u64(a.dependent, b.dependent),
+        wrong_shares: wrapping_add_u64(a.wrong_shares, b.wrong_shares),
+        short: wrapping_add_u64(a.short, b.short),
+        beyond: wrapping_add_u64(a.beyond, b.beyond),
+        changed: wrapping_add_u64(a.changed, b.changed),
+        changed_accepted: wrapping_add_u64(a.changed_accepted, b.changed_accepted),
+        changed_wrong: wrapping_add_u64(a.changed_wrong, b.changed_wrong),
+    }
+}
+
+// A line for each group.
+pub fn show(c: Counts) {
+    print::marked(b"  plans ", c.plans);
+    print::marked(b", teams ", c.teams);
+    print::marked(b", a best division short of a share ", c.short_best);
+    print::marked(b", shares other than v(all) / n ", c.apart);
+    print::marked(b"\n  sheets accepted ", c.accepted);
+    print::marked(b", totals ", c.totals);
+    print::marked(b", shares ", c.shares);
+    print::marked(b"; differences: totals ", c.wrong_totals);
+    print::marked(b", bundles ", c.dependent);
+    print::marked(b", shares ", c.wrong_shares);
+    print::marked(b", short teams ", c.short);
+    print::marked(b", bytes beyond ", c.beyond);
+    print::marked(b"\n  changed sheets ", c.changed);
+    print::marked(b", accepted ", c.changed_accepted);
+    print::marked(b", differences ", c.changed_wrong);
+    print::text(b"\n");
+}

@@ -1,0 +1,96 @@
+// A drawn plan as the bytes of a plan file, in a space of 128 bytes. Each function writes at an offset and answers the next one; a full
+// space takes no byte more.
+ghost use Prim.Native.Nat.{_≤_};
+use crate::draw::Drawing;
+use plan::Team;
+
+// One byte.
+fn byte(out: &mut [u8; 128], at: usize, value: u8) -> usize {
+    if at < 128 {
+        out[at] = value;
+        return at + 1;
+    }
+    at
+}
+
+// Two bytes.
+fn two(out: &mut [u8; 128], at: usize, a: u8, b: u8) -> usize {
+    let next = byte(out, at, a);
+    byte(out, next, b)
+}
+
+// Three bytes.
+fn three(out: &mut [u8; 128], at: usize, a: u8, b: u8, c: u8) -> usize {
+    let next = two(out, at, a, b);
+    byte(out, next, c)
+}
+
+// A CLASS for each of classes 0 to 3.
+fn classes(out: &mut [u8; 128], at: usize, cap: [u8; 16]) -> usize {
+    let mut end = at;
+    for c in 0..4usize {
+        end = three(out, end, 4, c as u8, cap[c]);
+    }
+    end
+}
+
+// A PUT for each of m instruments that is in a class.
+fn puts(out: &mut [u8; 128], at: usize, m: usize, class: [u8; 64]) -> usize
+    requires { ⌜ m ≤ 5 ⌝ }
+{
+    let mut end = at;
+    for g in 0..m {
+        let own = class[g];
+        if own < 16 {
+            end = three(out, end, 5, g as u8, own);
+        }
+    }
+    end
+}
+
+// A SPAN for each of m instruments that has joints.
+fn spans(out: &mut [u8; 128], at: usize, m: usize, first: [u8; 64], second: [u8; 64]) -> usize
+    requires { ⌜ m ≤ 5 ⌝ }
+{
+    let mut end = at;
+    for g in 0..m {
+        let a = first[g];
+        let b = second[g];
+        if a < 64 {
+            let next = two(out, end, 6, g as u8);
+            end = two(out, next, a, b);
+        }
+    }
+    end
+}
+
+// A team.
+fn team(out: &mut [u8; 128], at: usize, m: usize, t: Team) -> usize
+    requires { ⌜ m ≤ 5 ⌝ }
+{
+    let cap = t.cap;
+    let class = t.class;
+    let first = t.first;
+    let second = t.second;
+    let open = two(out, at, t.kind, t.channels);
+    if t.kind == 2 {
+        let next = classes(out, open, cap);
+        return puts(out, next, m, class);
+    }
+    spans(out, open, m, first, second)
+}
+
+// A whole plan: the answer is how many bytes it has.
+pub fn plan(out: &mut [u8; 128], d: Drawing) -> usize
+    requires { ⌜ (d .m ≤ 5) × (d .n ≤ 3) ⌝ }
+{
+    let m = d.m;
+    let n = d.n;
+    let teams = d.teams;
+    let mut end = three(out, 0, 1, 1, m as u8);
+    for t in 0..n {
+        let one = teams[t];
+        end = team(out, end, m, one);
+    }
+    byte(out, end, 7)
+}

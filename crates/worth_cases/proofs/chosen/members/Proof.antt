@@ -1,0 +1,49 @@
+use Prim.Native.Nat.{_≤_, _-_}
+use borrow.Author.Needs.{needs}
+use Rattle.worth_cases.proofs.chosen.members.Statement.{statement}
+use Rattle.worth_cases.proofs.chosen.members.Tie as tie
+
+abbrev Inv-loop : tie.InvT-loop
+Inv-loop s g₀ t3 g = g ≤ 64
+
+abbrev μ-loop : tie.MeasureT-loop
+μ-loop s g₀ t3 g = 64 - g
+
+loop-holds : tie.Need-loop-holds Inv-loop μ-loop
+loop-holds c = search needs
+
+member-requires : tie.Need-member-requires Inv-loop μ-loop
+member-requires c κs = search needs
+
+slice-aggregate-marked : tie.Need-slice-aggregate-marked Inv-loop μ-loop
+slice-aggregate-marked c = search needs
+
+marked-requires : tie.Need-marked-requires Inv-loop μ-loop
+marked-requires c κs = search needs
+
+add-g : tie.Need-add-g Inv-loop μ-loop
+add-g c = search needs
+
+loop-less : tie.Need-loop-less Inv-loop μ-loop
+loop-less c = search needs
+
+loop-again : tie.Need-loop-again Inv-loop μ-loop
+loop-again c = search needs
+
+returns : tie.Need-returns Inv-loop μ-loop
+returns c = search needs
+
+pub members-spec : {M : Type 1} → statement M
+members-spec =
+    tie.close
+    (tie.spec
+    Inv-loop
+    μ-loop
+    loop-holds
+    member-requires
+    slice-aggregate-marked
+    marked-requires
+    add-g
+    loop-less
+    loop-again
+    returns)
