@@ -4,4 +4,5 @@ pub mod Tables
 pub mod Kept
 pub mod Steps
 pub mod Run
+pub mod Called
 pub mod Bounds

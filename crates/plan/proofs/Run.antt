@@ -1,12 +1,13 @@
 -- The loop of `read`: what is still to be read decides the answer.
 use Prim.Native.Nat.{ℕ, zero, suc, _+_, _-_, _≤_, _<_}
-use mathlib.Core.Path.{_≡_, refl, sym, ap, _∙_}
+use mathlib.Core.Path.{_≡_, refl, sym, ap, _∙_, subst}
 use mathlib.Core.Bool.{Bool, true, false, cond}
 use mathlib.Core.Logic.{_≢_}
 use mathlib.Core.List.{List}
 use native.Mathlib.Omega.{arith}
 use lib.Dec.{leb}
 use lib.ListN.{length, getD, set, replicate}
+use lib.Seq.{getD-set-same}
 use borrow.Author.Tests.{leb-false, lt-ltb, le-ltb}
 use Rattle.plan.specs.declared.Command.{Command}
 use Rattle.plan.specs.declared.Command.the-variants.{Missing, Unknown, Short, Start, Caps, Loops, Class, Put, Span, End}
@@ -102,18 +103,15 @@ module _ (file : List ℕ) (at : ℕ) (s : State) (teams : List Team) (run : Run
   pub ends : (r : Reading) (b : Bool) → f ≡ 0 → b ≡ isEnd command → b ≡ true → r ≡ finished file at s teams → r ≡ readPlan file
   ends r b z eb t e = e ∙ run-end file at s teams run (sym found ∙ z) (rw is-command at (sym eb ∙ t))
 
-  pub goes-on : (s′ : State) (team′ : Team) (teams′ : List Team) (w : ℕ) (b : Bool) → f ≡ 0 → b ≡ isEnd command → b ≡ false
-      → s′ ≡ changedState s command → team′ ≡ changedTeam team command → w ≡ lengthOf command → teams′ ≡ changedTeams teams (s′ .n) team′ → Run file (at + w) s′ teams′
-  goes-on s′ team′ teams′ w b z eb t es et ew ets =
-      rw (ets, et, es, ew, is-team, is-command) (run-next file at s teams run (sym found ∙ z) (rw is-command at (sym eb ∙ t)))
+  pub goes-on : (s′ : State) (team′ : Team) (teams′ : List Team) (end : ℕ) (b : Bool) → f ≡ 0 → b ≡ isEnd command → b ≡ false
+      → s′ ≡ changedState s command → team′ ≡ changedTeam team command → end ≡ at + lengthOf (commandAt file at) → teams′ ≡ changedTeams teams (s′ .n) team′ → Run file end s′ teams′
+  goes-on s′ team′ teams′ end b z eb t es et ee ets =
+      rw (ets, et, es, ee, is-team, is-command) (run-next file at s teams run (sym found ∙ z) (rw is-command at (sym eb ∙ t)))
 
-  pub comes-nearer : (w : ℕ) → f ≡ 0 → w ≡ lengthOf command → length file - (at + w) < length file - at
-  comes-nearer w z ew = rw (ew, is-command) (run-longer file at s teams run (sym found ∙ z))
+  pub comes-nearer : (end : ℕ) → f ≡ 0 → end ≡ at + lengthOf (commandAt file at) → length file - end < length file - at
+  comes-nearer end z ee = rw ee (run-longer file at s teams run (sym found ∙ z))
 
-  -- the command that is carried out stands whole, and leaves at most twelve teams
-  pub stays-inside : (w : ℕ) → f ≡ 0 → w ≡ lengthOf command → at + w ≤ length file
-  stays-inside w z ew = rw (ew, is-command) (whole file at s (openTeam teams (s .n)) (sym found ∙ z) .fits)
-
+  -- the command that is carried out leaves at most twelve teams
   pub stays-few : (s′ : State) → f ≡ 0 → s′ ≡ changedState s command → s′ .n ≤ 12
   stays-few s′ z es = rw (es, is-command) (few-teams at s (openTeam teams (s .n)) (commandAt file at) (run .few) (sym found ∙ z))
 
@@ -123,3 +121,29 @@ stores teams teams′ n team l e = rw (lt-ltb 0 n l) e
 
 pub keeps : (teams teams′ : List Team) (n : ℕ) (team : Team) → n ≤ 0 → teams′ ≡ teams → teams′ ≡ changedTeams teams n team
 keeps teams teams′ n team l e = rw (le-ltb 0 n l) e
+
+-- ---- the open team
+
+-- the team just stored is the open one
+pub opens : (teams teams′ : List Team) (n : ℕ) (team : Team) → length teams ≡ 12 → n ≤ 12 → 0 < n → teams′ ≡ set teams (n - 1) team → team ≡ openTeam teams′ n
+opens teams teams′ n team long few some e = rw (lt-ltb 0 n some, e) (sym (getD-set-same teams (n - 1) team blankTeam (omega arith)))
+
+-- no command takes a team away
+none-before : (s : State) (command : Command) → changedState s command .n ≤ 0 → s .n ≤ 0
+unfolding changedState
+none-before s Missing l = l
+none-before s Unknown l = l
+none-before s Short l = l
+none-before s (Start version m) l = l
+none-before s (Caps channels) l = absurd (omega arith)
+none-before s (Loops channels) l = absurd (omega arith)
+none-before s (Class class most) l = l
+none-before s (Put instrument class) l = l
+none-before s (Span instrument a b) l = l
+none-before s End l = l
+
+-- so while there is none, none is open
+pub shut : (teams : List Team) (s s′ : State) (command : Command) (team : Team) → s′ ≡ changedState s command → s′ .n ≤ 0 → team ≡ openTeam teams (s .n) → team ≡ openTeam teams (s′ .n)
+shut teams s s′ command team es none e =
+    let before = none-before s command (subst (λ (x : State). x .n ≤ 0) es none) in
+    e ∙ rw (le-ltb 0 (s .n) before, le-ltb 0 (s′ .n) none) refl

@@ -6,6 +6,7 @@ use lib.Dec.{eqb, leb}
 use lib.ListN.{length, getD}
 use Rattle.plan.specs.declared.Command.{Command}
 use Rattle.plan.specs.declared.Command.the-variants.{Missing, Unknown, Short, Start, Caps, Loops, Class, Put, Span, End}
+use Rattle.plan.specs.declared.decode.Found.{Found}
 
 -- the kinds of team, by the byte that opens one: 02 CAPS, 03 LOOPS
 abbrev pub capsKind : ℕ
@@ -51,3 +52,7 @@ lengthOf (Class class cap) = 3
 lengthOf (Put instrument class) = 3
 lengthOf (Span instrument a b) = 4
 lengthOf End = 1
+
+-- the command at an offset, and the offset after it
+abbrev pub foundAt : List ℕ → ℕ → Found
+foundAt file at = record { command = commandAt file at; end = at + lengthOf (commandAt file at) }

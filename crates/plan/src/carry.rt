@@ -1,7 +1,7 @@
 // What a command that breaks no rule changes.
 ghost use mathlib.Core.Path.{_≡_};
 ghost use Prim.Native.Nat.{_≤_};
-ghost use Rattle.plan.specs.Carry.{blankTeam, opened, start, openTeam, changedTeam, changedState};
+ghost use Rattle.plan.specs.Carry.{blankTeam, opened, start, changedTeam, changedState};
 use super::Command;
 use super::State;
 use super::Team;
@@ -39,14 +39,6 @@ pub fn nothing() -> State
         n: 0,
         capped: [false; 16],
     }
-}
-
-// The team opened last, and a blank one where none is.
-pub fn open_team(teams: [Team; 12], n: usize) -> Team
-    requires { ⌜ n ≤ 12 ⌝ }
-    ensures { λ r. ⌜ r ≡ openTeam teams n ⌝ }
-{
-    if 0 < n { teams[n - 1] } else { blank() }
 }
 
 // The open team with a class capped.

@@ -1,7 +1,7 @@
 // What stands at an offset of a plan file.
 ghost use mathlib.Core.Path.{_≡_};
 ghost use lib.ListN.{getD};
-ghost use Rattle.plan.specs.Command.{widthOf, commandOf, commandAt, lengthOf};
+ghost use Rattle.plan.specs.Command.{widthOf, commandOf, commandAt, lengthOf, foundAt};
 use super::Command;
 
 // The byte at an offset, and 0 past the end.
@@ -73,5 +73,22 @@ pub fn width(command: Command) -> usize
         Command::Put(_, _) => 3,
         Command::Span(_, _, _) => 4,
         Command::End => 1,
+    }
+}
+
+// A command, and the offset after it.
+pub struct Found {
+    pub command: Command,
+    pub end: usize,
+}
+
+// The command at an offset of the file, with the offset after it.
+pub fn found_at(file: &[u8], at: usize) -> Found
+    ensures { λ r. ⌜ r ≡ foundAt (now (file .entry)) at ⌝ }
+{
+    let command = command_at(file, at);
+    Found {
+        command,
+        end: at + width(command),
     }
 }

@@ -5,6 +5,7 @@ ghost use Rattle.plan.specs.Read.{readPlan, refused, finished};
 pub mod carry;
 pub mod decode;
 pub mod judge;
+pub mod reader;
 
 // What stands at an offset of the file.
 pub enum Command {
@@ -91,7 +92,7 @@ fn finish(file: &[u8], at: usize, s: State, teams: [Team; 12]) -> Reading
     }
 }
 
-// Reads a plan file.
+// Reads a plan file: a reader hands out command after command, until one breaks a rule or is an END in its place.
 pub fn read(file: &[u8]) -> Reading
     ensures { λ r. ⌜ r ≡ readPlan (now (file .entry)) ⌝ }
 {
@@ -100,23 +101,25 @@ pub fn read(file: &[u8]) -> Reading
     }
     let mut at: usize = 0;
     let mut s = carry::nothing();
-    let mut teams = [carry::blank(); 12];
+    let mut current = carry::blank();
+    let mut teams = [current; 12];
     loop {
-        let command = decode::command_at(file, at);
-        let open = carry::open_team(teams, s.n);
-        let fault = judge::fault_of(at, s, open, command);
+        let found = reader::next_command(file, at);
+        let command = found.command;
+        let fault = judge::fault_of(at, s, current, command);
         if fault != 0 {
             return refuse(fault, at);
         }
         if judge::is_end(command) {
             return finish(file, at, s, teams);
         }
-        let team = carry::changed_team(open, command);
+        let team = carry::changed_team(current, command);
         s = carry::changed_state(s, command);
         let k = s.n;
         if 0 < k {
             teams[k - 1] = team;
+            current = team;
         }
-        at += decode::width(command);
+        at = found.end;
     }
 }
