@@ -181,6 +181,16 @@ module _ (s : Seats) (owner bundles : List ℕ) (ready : Ready s owner bundles) 
     leads = λ k b e. let long = ready .owner-long in let same = getD-any owner g 0 255 (omega arith) in let team = e .0 in absurd (omega arith);
   }
 
+  -- below the least fresh number there is nothing to reach
+  pub scan-jump : Scanning s owner sources target trace scanned todo g fresh 0 → (low : ℕ) → Lowest fresh low → Scanning s owner sources target trace scanned todo g fresh low
+  scan-jump sc low least = record {
+    going = sc .going;
+    member = sc .member;
+    passed = λ k f b. absurd (T-not (bit fresh k) (least .least k b) f);
+    ahead = λ k f _. sc .ahead k f (omega arith);
+    leads = sc .leads;
+  }
+
   module _ (x : ℕ) (sc : Scanning s owner sources target trace scanned todo g fresh x) where
     -- any other number is passed over
     pub scan-skip : bit fresh x ≡ false → Scanning s owner sources target trace scanned todo g fresh (x + 1)

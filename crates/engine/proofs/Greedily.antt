@@ -16,6 +16,7 @@ use Rattle.matroid.specs.Matroid.{Matroid}
 use Rattle.matroid.specs.Chain.{Sound}
 use Rattle.matroid.specs.Division.{bundle}
 use Rattle.sets.specs.Bits.{bit}
+use Rattle.sets.specs.Lowest.{Lowest}
 use Rattle.plan.specs.declared.Team.{Team}
 use Rattle.plan.specs.Carry.{blankTeam}
 use Rattle.plan.proofs.Lists.{getD-any}
@@ -34,8 +35,9 @@ gave-fits : (h : Holding) (g t : ℕ) → g < h .m → g < 64 → t < h .n → t
 unfolding gave isInstrument isTeam holderOf
 gave-fits h g t below low seat few pool = rw (lt-ltb g (h .m) below, lt-ltb g 64 low, lt-ltb t (h .n) seat, lt-ltb t 255 few, pool) refl
 
-pub handed-none : (h : Holding) (t fresh : ℕ) → Offered h t fresh → Handed h t fresh 0 h
-handed-none h t fresh o = record { m = refl; n = refl; long = o .long; new = λ j l. absurd (omega arith); old = λ j _. refl }
+-- below the least fresh one there is nothing to give
+pub handed-from : (h : Holding) (t fresh low : ℕ) → Offered h t fresh → Lowest fresh low → Handed h t fresh low h
+handed-from h t fresh low o least = record { m = refl; n = refl; long = o .long; new = λ j l f. absurd (T-not (bit fresh j) (least .least j l) f); old = λ j _. refl }
 
 module _ (h : Holding) (t fresh k : ℕ) (r next : Holding) (o : Offered h t fresh) (s : Handed h t fresh k r) where
   pub handed-take : bit fresh k ≡ true → next ≡ gave r k t → Handed h t fresh (k + 1) next

@@ -11,7 +11,8 @@ fn handed(start: Holding, t: usize, fresh: u64) -> Holding
     ensures { λ r. ⌜ Handed start t fresh 64 r ⌝ }
 {
     let mut h = start;
-    for g in 0..64usize {
+    let first = sets::lowest(fresh);
+    for g in first..64usize {
         if sets::member(fresh, g) {
             h = h.give(g, t);
         }
@@ -49,5 +50,8 @@ pub fn greedy(s: Seats) -> Holding
     let m = s.m;
     let n = s.n;
     let even = round(s, Holding::empty(m, n), m / n + 1);
+    if sets::lowest(even.pool()) >= 64 {
+        return even;
+    }
     round(s, even, m)
 }

@@ -130,7 +130,8 @@ pub fn search(s: Seats, owner: [u8; 64], bundles: [u64; 12], sources: u64, targe
             let team = teams[seat];
             fresh = exchanges(team, m, bundles[seat], g, trace.seen);
         }
-        for x in 0..m {
+        let first = sets::lowest(fresh);
+        for x in first..m {
             if sets::member(fresh, x) {
                 trace = trace.marked(x, g, t);
                 if sets::member(target, x) {

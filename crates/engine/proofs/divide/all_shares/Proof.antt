@@ -1,19 +1,13 @@
 use Prim.Native.Nat.{ℕ, _≤_, _<_, _-_}
 use mathlib.Core.Path.{_≡_, refl}
-use mathlib.Core.List.{[]}
 use native.Mathlib.Omega.{arith}
-use Rattle.plan.specs.declared.Team.{Team}
 use Rattle.engine.specs.Fill.{Seated}
 use Rattle.engine.specs.Divide.{AllShares}
-use Rattle.engine.proofs.Words.{seating}
+use Rattle.engine.proofs.Words.{seating, filler}
 use Rattle.engine.proofs.Dividing.{shares-none, shares-more}
 use borrow.Author.Needs.{needs}
 use Rattle.engine.proofs.divide.all_shares.Statement.{statement}
 use Rattle.engine.proofs.divide.all_shares.Tie as tie
-
--- what stands past the end of an array of teams
-abbrev filler : Team
-filler = record { kind = 0; channels = 0; cap = []; class = []; first = []; second = [] }
 
 abbrev Inv-loop : tie.InvT-loop
 Inv-loop m n teams shares₀ t₀ shares t = (t ≤ n) × AllShares (seating m n teams) t shares

@@ -17,12 +17,31 @@ add-round c = let d = div-le-self (c .before .args .s .m) (c .before .args .s .n
 round-requires : tie.Need-round-requires
 round-requires c κs = held-empty _ _ (c .before .pre) (c .empty .ensures)
 
-round-requires-2 : tie.Need-round-requires-2
-round-requires-2 c κs = search needs
+pool-requires : tie.Need-pool-requires
+pool-requires c κs = omega (arith, c .round .ensures .m, c .round .ensures .small)
+
+lowest-requires : tie.Need-lowest-requires
+lowest-requires c κs = search needs
 
 returns : tie.Need-returns
-returns c = search needs
+returns c = c .before .before .before .round .ensures
+
+round-requires-2 : tie.Need-round-requires-2
+round-requires-2 c κs = c .before .before .before .round .ensures
+
+returns-2 : tie.Need-returns-2
+returns-2 c = c .round2 .ensures
 
 pub greedy-spec : {M : Type 1} → statement M
 greedy-spec =
-    tie.close (tie.spec empty-requires div-round add-round round-requires round-requires-2 returns)
+    tie.close
+    (tie.spec
+    empty-requires
+    div-round
+    add-round
+    round-requires
+    pool-requires
+    lowest-requires
+    returns
+    round-requires-2
+    returns-2)

@@ -3,19 +3,22 @@ use mathlib.Core.Path.{_≡_, sym, _∙_}
 use mathlib.Core.Logic.{⊎-elim}
 use native.Mathlib.Omega.{arith}
 use Rattle.engine.specs.Greedy.{Offered, Handed}
-use Rattle.engine.proofs.Greedily.{handed-none, handed-take, handed-skip}
+use Rattle.engine.proofs.Greedily.{handed-from, handed-take, handed-skip}
 use borrow.Author.Needs.{needs}
 use Rattle.engine.proofs.greedy.handed.Statement.{statement}
 use Rattle.engine.proofs.greedy.handed.Tie as tie
 
 abbrev Inv-loop : tie.InvT-loop
-Inv-loop t fresh h₀ g₀ h g = (g ≤ 64) × Offered h₀ t fresh × Handed h₀ t fresh g h
+Inv-loop t fresh h₀ first g₀ h g = (g ≤ 64) × Offered h₀ t fresh × Handed h₀ t fresh g h
 
 abbrev μ-loop : tie.MeasureT-loop
-μ-loop t fresh h₀ g₀ h g = 64 - g
+μ-loop t fresh h₀ first g₀ h g = 64 - g
 
 loop-holds : tie.Need-loop-holds Inv-loop μ-loop
-loop-holds c = (search needs, c .pre, handed-none _ _ _ (c .pre))
+loop-holds c = (c .lowest .ensures .top, c .before .pre, handed-from _ _ _ _ (c .before .pre) (c .lowest .ensures))
+
+lowest-requires : tie.Need-lowest-requires Inv-loop μ-loop
+lowest-requires c κs = search needs
 
 member-requires : tie.Need-member-requires Inv-loop μ-loop
 member-requires c κs = search needs
@@ -48,6 +51,7 @@ handed-spec =
     (tie.spec
     Inv-loop
     μ-loop
+    lowest-requires
     loop-holds
     member-requires
     give-requires

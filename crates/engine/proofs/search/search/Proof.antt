@@ -1,27 +1,21 @@
 -- `search` meets its contract. The invariants: the search goes on, clear of targets (`Going`); of the fresh instruments those passed are reached (`Scanning`).
 use Prim.Native.Nat.{ℕ, _≤_, _<_, _-_}
 use mathlib.Core.Path.{_≡_, refl, sym, _∙_}
-use mathlib.Core.List.{[]}
 use mathlib.Core.Bool.{true≢false}
 use mathlib.Core.Logic.{⊎-elim}
 use native.Mathlib.Omega.{arith}
 use lib.ListN.{length, getD}
-use Rattle.plan.specs.declared.Team.{Team}
-use Rattle.engine.proofs.Words.{seating}
-use Rattle.engine.proofs.Going.{ones, ones-le, ones-with, Going, going-start, roots-found, going-rest, all-scanned, Scanning, scan-start, scan-pool, scan-skip, scan-mark, scan-found, scan-end, scan-new, outcome-found, outcome-none}
+use Rattle.engine.proofs.Words.{seating, filler}
+use Rattle.engine.proofs.Going.{ones, ones-le, ones-with, Going, going-start, roots-found, going-rest, all-scanned, Scanning, scan-start, scan-pool, scan-jump, scan-skip, scan-mark, scan-found, scan-end, scan-new, outcome-found, outcome-none}
 use borrow.Author.Needs.{needs}
 use Rattle.engine.proofs.search.search.Statement.{statement}
 use Rattle.engine.proofs.search.search.Tie as tie
 
--- what stands past the end of an array of teams
-abbrev filler : Team
-filler = record { kind = 0; channels = 0; cap = []; class = []; first = []; second = [] }
-
 abbrev Inv-loop : tie.InvT-loop
-Inv-loop sources target owner bundles m n teams trace₀ hit scanned todo end₀ g fresh t seat x₀ trace end x = (x ≤ m) × (end ≡ 64) × Scanning (seating m n teams) owner sources target trace scanned todo g fresh x
+Inv-loop sources target owner bundles m n teams trace₀ hit scanned todo end₀ g fresh t seat first x₀ trace end x = (end ≡ 64) × Scanning (seating m n teams) owner sources target trace scanned todo g fresh x
 
 abbrev μ-loop : tie.MeasureT-loop
-μ-loop sources target owner bundles m n teams trace₀ hit scanned todo end₀ g fresh t seat x₀ trace end x = m - x
+μ-loop sources target owner bundles m n teams trace₀ hit scanned todo end₀ g fresh t seat first x₀ trace end x = m - x
 
 abbrev Inv-scan : tie.InvT-scan
 Inv-scan sources target owner bundles m n teams trace₀ hit scanned₀ todo₀ end₀ trace scanned todo end = (end ≡ 64) × Going (seating m n teams) owner sources target trace scanned todo
@@ -73,22 +67,24 @@ exchanges-requires c κs = (c .before .before .before .before .before .before .b
 
 loop-holds : tie.Need-loop-holds Inv-loop μ-loop Inv-scan μ-scan
 loop-holds c = (
-  search needs,
-  c .before .before .before .before .scan .inv .0,
-  ⊎-elim
-      (λ w. rw (w .3) (scan-start _ _ _ (c .before .before .before .before .before .before .before .before .before .before .pre) _ _ _ _ _ _ _ _ _ filler (going-rest _ _ _ (c .before .before .before .before .before .before .before .before .before .before .pre) _ _ _ _ _ (c .before .before .before .before .scan .inv .1) _ (c .before .before .before .rest .ensures)) (c .before .before .lowest2 .ensures .member (c .before .if2 .left)) (c .before .if2 .left) refl (w .0 .taken) refl (w .2 .ensures)))
-      (λ w. scan-pool _ _ _ (c .before .before .before .before .before .before .before .before .before .before .pre) _ _ _ _ _ _ _ _ (going-rest _ _ _ (c .before .before .before .before .before .before .before .before .before .before .pre) _ _ _ _ _ (c .before .before .before .before .scan .inv .1) _ (c .before .before .before .rest .ensures)) (c .before .before .lowest2 .ensures .member (c .before .if2 .left)) (c .before .if2 .left) refl (w .0 .left) (w .1))
-      (c .if3 .came),
+  c .before .before .before .before .before .scan .inv .0,
+  scan-jump _ _ _ (c .before .before .before .before .before .before .before .before .before .before .before .pre) _ _ _ _ _ _ _ (⊎-elim
+      (λ w. rw (w .3) (scan-start _ _ _ (c .before .before .before .before .before .before .before .before .before .before .before .pre) _ _ _ _ _ _ _ _ _ filler (going-rest _ _ _ (c .before .before .before .before .before .before .before .before .before .before .before .pre) _ _ _ _ _ (c .before .before .before .before .before .scan .inv .1) _ (c .before .before .before .before .rest .ensures)) (c .before .before .before .lowest2 .ensures .member (c .before .before .if2 .left)) (c .before .before .if2 .left) refl (w .0 .taken) refl (w .2 .ensures)))
+      (λ w. scan-pool _ _ _ (c .before .before .before .before .before .before .before .before .before .before .before .pre) _ _ _ _ _ _ _ _ (going-rest _ _ _ (c .before .before .before .before .before .before .before .before .before .before .before .pre) _ _ _ _ _ (c .before .before .before .before .before .scan .inv .1) _ (c .before .before .before .before .rest .ensures)) (c .before .before .before .lowest2 .ensures .member (c .before .before .if2 .left)) (c .before .before .if2 .left) refl (w .0 .left) (w .1))
+      (c .before .if3 .came)) _ (c .lowest3 .ensures),
 )
 
 member-requires : tie.Need-member-requires Inv-loop μ-loop Inv-scan μ-scan
-member-requires c κs = omega (arith, c .before .before .before .before .before .before .before .before .before .before .before .before .pre .small)
+member-requires c κs = omega (arith, c .before .before .before .before .before .before .before .before .before .before .before .before .before .pre .small)
 
 marked-requires : tie.Need-marked-requires Inv-loop μ-loop Inv-scan μ-scan
-marked-requires c κs = (omega (arith, c .before .before .before .before .before .before .before .before .before .before .before .before .before .before .pre .small), c .before .before .before .before .before .if2 .left)
+marked-requires c κs = (omega (arith, c .before .before .before .before .before .before .before .before .before .before .before .before .before .before .before .pre .small), c .before .before .before .before .before .before .if2 .left)
 
 member-requires-2 : tie.Need-member-requires-2 Inv-loop μ-loop Inv-scan μ-scan
-member-requires-2 c κs = omega (arith, c .before .before .before .before .before .before .before .before .before .before .before .before .before .before .before .pre .small)
+member-requires-2 c κs = omega (arith, c .before .before .before .before .before .before .before .before .before .before .before .before .before .before .before .before .pre .small)
+
+lowest-requires-3 : tie.Need-lowest-requires-3 Inv-loop μ-loop Inv-scan μ-scan
+lowest-requires-3 c κs = search needs
 
 add-x : tie.Need-add-x Inv-loop μ-loop Inv-scan μ-scan
 add-x c = search needs
@@ -98,11 +94,10 @@ loop-less c = search needs
 
 loop-again : tie.Need-loop-again Inv-loop μ-loop Inv-scan μ-scan
 loop-again c = (
-  search needs,
-  c .before .before .before .loop .inv .1,
+  c .before .before .before .loop .inv .0,
   ⊎-elim
-      (λ w. rw (w .4) (scan-mark _ _ _ (c .before .before .before .before .before .before .before .before .before .before .before .before .before .before .pre) _ _ (c .before .before .before .loop .trace) _ _ _ _ _ (c .before .before .before .loop .inv .2) _ (w .1 .result) (c .before .before .before .before .before .if2 .left) refl (sym (c .before .member .ensures) ∙ w .0 .taken) (w .1 .ensures) (sym (w .2 .ensures) ∙ w .3 .left)))
-      (λ w. rw (w .1) (scan-skip _ _ _ (c .before .before .before .before .before .before .before .before .before .before .before .before .before .before .pre) _ _ (c .before .before .before .loop .trace) _ _ _ _ _ (c .before .before .before .loop .inv .2) (sym (c .before .member .ensures) ∙ w .0 .left)))
+      (λ w. rw (w .4) (scan-mark _ _ _ (c .before .before .before .before .before .before .before .before .before .before .before .before .before .before .before .pre) _ _ (c .before .before .before .loop .trace) _ _ _ _ _ (c .before .before .before .loop .inv .1) _ (w .1 .result) (c .before .before .before .before .before .before .if2 .left) refl (sym (c .before .member .ensures) ∙ w .0 .taken) (w .1 .ensures) (sym (w .2 .ensures) ∙ w .3 .left)))
+      (λ w. rw (w .1) (scan-skip _ _ _ (c .before .before .before .before .before .before .before .before .before .before .before .before .before .before .before .pre) _ _ (c .before .before .before .loop .trace) _ _ _ _ _ (c .before .before .before .loop .inv .1) (sym (c .before .member .ensures) ∙ w .0 .left)))
       (c .if4 .came),
 )
 
@@ -114,18 +109,18 @@ without-requires c κs = search needs
 
 scan-less : tie.Need-scan-less Inv-loop μ-loop Inv-scan μ-scan
 scan-less c =
-    let more = ones-with (c .before .before .before .before .before .before .before .before .scan .scanned) (c .before .with .result) (c .before .before .before .before .before .before .lowest2 .result) (c .before .before .before .before .before .if2 .left) (scan-new _ _ _ (c .before .before .before .before .before .before .before .before .before .before .before .before .before .before .pre) _ _ (c .before .before .before .loop .trace) _ _ _ _ _ (c .before .before .before .loop .inv .2)) (c .before .with .ensures) in
+    let more = ones-with (c .before .before .before .before .before .before .before .before .before .scan .scanned) (c .before .with .result) (c .before .before .before .before .before .before .before .lowest2 .result) (c .before .before .before .before .before .before .if2 .left) (scan-new _ _ _ (c .before .before .before .before .before .before .before .before .before .before .before .before .before .before .before .pre) _ _ (c .before .before .before .loop .trace) _ _ _ _ _ (c .before .before .before .loop .inv .1)) (c .before .with .ensures) in
     let most = ones-le (c .before .with .result) in
     omega arith
 
 scan-again : tie.Need-scan-again Inv-loop μ-loop Inv-scan μ-scan
-scan-again c = (c .before .before .before .loop .inv .1, scan-end _ _ _ (c .before .before .before .before .before .before .before .before .before .before .before .before .before .before .pre) _ _ (c .before .before .before .loop .trace) _ _ _ _ _ (c .before .before .before .loop .inv .2) _ _ (c .before .before .loop-test .left) (c .before .with .ensures) (c .without .ensures))
+scan-again c = (c .before .before .before .loop .inv .0, scan-end _ _ _ (c .before .before .before .before .before .before .before .before .before .before .before .before .before .before .before .pre) _ _ (c .before .before .before .loop .trace) _ _ _ _ _ (c .before .before .before .loop .inv .1) _ _ (c .before .before .loop-test .left) (c .before .with .ensures) (c .without .ensures))
 
 returns-2 : tie.Need-returns-2 Inv-loop μ-loop Inv-scan μ-scan
 returns-2 c = ⊎-elim
     (λ w. rw (w .1, w .2) (outcome-none _ _ _ (c .before .before .before .before .before .before .before .before .before .pre) _ _ (c .before .before .before .scan .trace) _ _ _ _ _ (c .before .before .before .scan .inv .1) (c .before .before .rest .ensures) (c .before .lowest2 .ensures) (w .0 .taken) (c .before .before .before .scan .inv .0)))
-    (λ w. rw (w .9, w .10) (outcome-found _ _ _ (c .before .before .before .before .before .before .before .before .before .pre) _ _ (w .6 .result) _ (omega (arith, w .3 .taken, c .before .before .before .before .before .before .before .before .before .pre .small))
-    (scan-found _ _ _ (c .before .before .before .before .before .before .before .before .before .pre) _ _ (w .2 .trace) _ _ _ _ _ (w .2 .inv .2) _ (w .6 .result) (w .0 .left) refl (sym (w .4 .ensures) ∙ w .5 .taken) (w .6 .ensures) (sym (w .7 .ensures) ∙ w .8 .taken))))
+    (λ w. rw (w .10, w .11) (outcome-found _ _ _ (c .before .before .before .before .before .before .before .before .before .pre) _ _ (w .7 .result) _ (omega (arith, w .4 .taken, c .before .before .before .before .before .before .before .before .before .pre .small))
+    (scan-found _ _ _ (c .before .before .before .before .before .before .before .before .before .pre) _ _ (w .3 .trace) _ _ _ _ _ (w .3 .inv .1) _ (w .7 .result) (w .0 .left) refl (sym (w .5 .ensures) ∙ w .6 .taken) (w .7 .ensures) (sym (w .8 .ensures) ∙ w .9 .taken))))
     (c .if2 .came)
 
 pub search-spec : {M : Type 1} → statement M
@@ -150,6 +145,7 @@ search-spec =
     mul-exchanges
     array-read-exchanges
     exchanges-requires
+    lowest-requires-3
     loop-holds
     member-requires
     marked-requires
