@@ -19,6 +19,7 @@ use Rattle.matroid.specs.Chain.{CanSwap, Edge}
 use Rattle.matroid.specs.Closure.{Closed, Gains}
 use Rattle.matroid.specs.Breadth.{Labels, Rooted, Wave, Traced, wave-traced, wave-closed, wave-gains, wave-next, wave-scanned, wave-mark, rooted-wave}
 use Rattle.sets.specs.Bits.{bit}
+use Rattle.sets.specs.Below.{none-there}
 use Rattle.sets.specs.Lowest.{Lowest}
 use Rattle.plan.specs.declared.Team.{Team}
 use Rattle.plan.proofs.Lists.{getD-any}
@@ -27,7 +28,7 @@ use Rattle.engine.specs.declared.Seats.{Seats}
 use Rattle.engine.specs.declared.search.Trace.{Trace}
 use Rattle.engine.specs.Seats.{seatOf, holder, Ready}
 use Rattle.engine.specs.Search.{Rooting, Marked, Exchanges, Rest, here, onward, labelsOf, Labelling, Outcome}
-use Rattle.engine.proofs.Words.{word-bundle, seat-is, word-indep, swaps-alike, bit-none}
+use Rattle.engine.proofs.Words.{word-bundle, seat-is, word-indep, swaps-alike}
 
 -- ---- words, counted
 
@@ -76,7 +77,7 @@ module _ (s : Seats) (owner bundles : List ℕ) (ready : Ready s owner bundles) 
   going-start trace both hit r is lowest l lp lt = record {
     level = λ x. 0;
     depth = 0;
-    wave = rooted-wave (s .n) (seatOf s) (holder owner) (bit sources) (bit (trace .seen)) (bit 0) (labelsOf (λ x. 0) trace) (r .rooted) (λ x. refl) bit-none;
+    wave = rooted-wave (s .n) (seatOf s) (holder owner) (bit sources) (bit (trace .seen)) (bit 0) (labelsOf (λ x. 0) trace) (r .rooted) (λ x. refl) none-there;
     roots = λ x t _. r .apart x (let b = r .rooted .below x t in let small = ready .small in omega arith);
     clear = λ x t. not-T (bit target x) (λ tt′. T-not (bit both x) (empty both hit lowest l x (let b = r .rooted .below x t in let small = ready .small in omega arith)) (subst⁻¹ T (is x) (both-of (bit (trace .seen) x) (bit target x) t tt′)));
     parent-long = lp;
@@ -87,7 +88,7 @@ module _ (s : Seats) (owner bundles : List ℕ) (ready : Ready s owner bundles) 
   pub roots-found : (trace : Trace) (both hit : ℕ) → Rooting s owner sources (s .n) trace → ((k : ℕ) → bit both k ≡ (bit (trace .seen) ∩ bit target) k) → Lowest both hit → hit < 64
       → Labelling s owner sources trace × T (bit (trace .seen) hit) × T (bit target hit)
   roots-found trace both hit r is lowest l =
-      let w = rooted-wave (s .n) (seatOf s) (holder owner) (bit sources) (bit (trace .seen)) (bit 0) (labelsOf (λ x. 0) trace) (r .rooted) (λ x. refl) bit-none in
+      let w = rooted-wave (s .n) (seatOf s) (holder owner) (bit sources) (bit (trace .seen)) (bit 0) (labelsOf (λ x. 0) trace) (r .rooted) (λ x. refl) none-there in
       let t = subst T (is hit) (lowest .member l) in (
         record {
           level = λ x. 0;
@@ -177,7 +178,7 @@ module _ (s : Seats) (owner bundles : List ℕ) (ready : Ready s owner bundles) 
     going = go;
     member = og;
     passed = λ k f b. absurd (omega arith);
-    ahead = λ k f _. absurd (T-not (bit 0 k) (bit-none k) (rw e at f));
+    ahead = λ k f _. absurd (T-not (bit 0 k) (none-there k) (rw e at f));
     leads = λ k b e. let long = ready .owner-long in let same = getD-any owner g 0 255 (omega arith) in let team = e .0 in absurd (omega arith);
   }
 

@@ -16,7 +16,7 @@ use Rattle.matroid.specs.Matroid.{Matroid, worth}
 use Rattle.matroid.specs.Division.{bundle}
 use Rattle.matroid.specs.Closure.{Closed, Gains, slack-held, slack-gain, slack-edge, levelling}
 use Rattle.sets.specs.Bits.{bit}
-use Rattle.kinds.proofs.Below.{size-under}
+use Rattle.sets.specs.Below.{none-there, size-under}
 use Rattle.holding.specs.declared.Holding.{Holding}
 use Rattle.holding.specs.Words.{Bundles}
 use Rattle.engine.specs.declared.Seats.{Seats}
@@ -26,7 +26,6 @@ use Rattle.engine.specs.Search.{Outcome}
 use Rattle.engine.specs.Chains.{Advanced}
 use Rattle.engine.specs.Fill.{given, Full}
 use Rattle.engine.specs.Level.{wordSize, FirstShort, Above, Levellable, Levelled}
-use Rattle.engine.proofs.Words.{bit-none}
 use Rattle.engine.proofs.Sizes.{size-after, given-same}
 
 -- the size of a word, as the code has it
@@ -50,7 +49,7 @@ bundle-size s owner bundles ready t l =
 -- ---- the seats above their targets
 
 pub above-none : (bundles targets : List ℕ) → Above bundles targets 0 0
-above-none bundles targets = record { at = λ j. (λ t. absurd (T-not (bit 0 j) (bit-none j) t), λ (t, l, _). absurd (omega arith)) }
+above-none bundles targets = record { at = λ j. (λ t. absurd (T-not (bit 0 j) (none-there j) t), λ (t, l, _). absurd (omega arith)) }
 
 module _ (bundles targets : List ℕ) (n r : ℕ) (h : Above bundles targets n r) where
   pub above-take : (next : ℕ) → getD targets n 0 < wordSize bundles n → ((j : ℕ) → bit next j ≡ (bit r ∪ bit (getD bundles n 0)) j) → Above bundles targets (n + 1) next

@@ -19,7 +19,7 @@ use Rattle.matroid.specs.Division.{bundle, held, total, weak-duality, sum-bundl
 use Rattle.matroid.specs.Cuts.{Cuts}
 use Rattle.matroid.specs.Share.{share, Cut, share-most, share-bound}
 use Rattle.sets.specs.Bits.{bit}
-use Rattle.kinds.proofs.Below.{size-under}
+use Rattle.sets.specs.Below.{size-under}
 use Rattle.plan.specs.declared.Team.{Team}
 use Rattle.plan.specs.Carry.{blankTeam}
 use Rattle.plan.proofs.Lists.{getD-any}

@@ -7,7 +7,6 @@ use mathlib.Core.List.{List, []}
 use native.Mathlib.Omega.{arith}
 use lib.Dec.{T, eqb, ltb, lt→ltb, T-not}
 use lib.ListN.{length, getD}
-use lib.Pow.{pow-pos}
 use borrow.Author.Tests.{lt-ltb}
 use Rattle.matroid.specs.Taut.{both, and-left, and-right, follows₂}
 use Rattle.matroid.specs.Set.{Set, with, without, under, Within, with-mono, swap-mono}
@@ -17,7 +16,7 @@ use Rattle.matroid.specs.Division.{bundle}
 use Rattle.matroid.specs.Breadth.{Rooted, rooted-take}
 use Rattle.sets.specs.Bits.{bit}
 use Rattle.sets.specs.Lowest.{Lowest}
-use Rattle.sets.specs.Words.{bit-high}
+use Rattle.sets.specs.Below.{none-there}
 use Rattle.plan.specs.declared.Team.{Team}
 use Rattle.plan.proofs.Lists.{getD-any}
 use Rattle.plan.specs.Carry.{blankTeam}
@@ -46,10 +45,6 @@ module _ {m : ℕ} (M : Matroid m) (A B : Set) (same : (k : ℕ) → k < m → A
   pub swaps-alike : (x y : ℕ) → y < m → Swaps M A x y ↔ Swaps M B x y
   swaps-alike x y l = (λ (o, i). (out y l .0 o, M .part (swap-mono x y to-left) i), λ (o, i). (out y l .1 o, M .part (swap-mono x y to-right) i))
 
--- the empty word
-pub bit-none : (k : ℕ) → T (not (bit 0 k))
-bit-none k = subst⁻¹ (λ (b : Bool). T (not b)) (bit-high 0 k (pow-pos k)) tt
-
 -- what may join a bundle without g, outside the bundle and not seen, can take the place of g
 pub exchanges-at : (m : ℕ) (team : Team) (set g seen cut free fresh r : ℕ) → ((k : ℕ) → bit cut k ≡ without (bit set) g k)
     → (matroidOf m team .Indep (bit cut) → Gains (matroidOf m team) (bit cut) free)
@@ -74,7 +69,7 @@ pub exchanges-none : (m : ℕ) (team : Team) (set g seen all left low : ℕ) →
     → ((k : ℕ) → bit left k ≡ (bit all k && not (bit seen k))) → Lowest left low → 64 ≤ low → Exchanges m team set g seen 0
 exchanges-none m team set g seen all left low small is-all is-left lowest none = record {
   at = λ i x. (
-    λ t. absurd (T-not (bit 0 x) (bit-none x) t),
+    λ t. absurd (T-not (bit 0 x) (none-there x) t),
     λ (l, new, _). absurd (T-not (bit left x) (lowest .least x (omega arith)) (subst⁻¹ T (is-left x) (both (bit all x) _ (subst⁻¹ T (is-all x) (lt→ltb x m l)) new))),
   );
 }

@@ -14,7 +14,7 @@ use Rattle.holding.specs.declared.Moves.{Moves}
 use Rattle.holding.specs.Give.{holderOf, isInstrument, isTeam}
 use Rattle.holding.specs.Chain.{itemAt, teamOf, mayMove, earlier, firstFit, movesFit}
 use Rattle.holding.proofs.Tests.{and-left, and-right, instrument-below}
-use Rattle.holding.proofs.Marks.{bit-none}
+use Rattle.sets.specs.Below.{bit-none}
 
 -- the first k moves fit, and the word holds their instruments
 pub record Fitting (h : Holding) (moves : Moves) (k word : ℕ) : Type 0 where

@@ -6,15 +6,10 @@ use mathlib.Core.Logic.{_≢_}
 use native.Mathlib.Omega.{arith}
 use native.Mathlib.Decide.{ℕ-discrete, decLt}
 use lib.Dec.{ltb}
-use lib.Pow.{pow-pos}
 use borrow.Author.Tests.{lt-ltb, le-ltb, eq-eqb, ne-eqb}
 use Rattle.matroid.specs.Set.{Set, with}
 use Rattle.sets.specs.Bits.{bit}
-use Rattle.sets.specs.Words.{bit-high}
-
--- the word 0 has no members
-pub bit-none : (j : ℕ) → bit 0 j ≡ false
-bit-none j = bit-high 0 j (pow-pos j)
+use Rattle.sets.specs.Below.{bit-none}
 
 -- the word holds the numbers below k that pass the test
 abbrev pub Marks : (test : Set) (k word : ℕ) → Type 0

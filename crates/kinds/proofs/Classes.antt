@@ -10,16 +10,12 @@ use native.Mathlib.Decide.{ℕ-discrete, decLt}
 use lib.Dec.{T, eqb, ltb}
 use lib.ListN.{length, getD, set, replicate, length-set, getD-replicate}
 use lib.Seq.{getD-set-same, getD-set-other}
-use lib.Pow.{pow-pos}
 use borrow.Author.Tests.{lt-ltb, le-ltb, eq-eqb, ne-eqb}
 use Rattle.matroid.specs.Taut.{or-cases, follows₂}
 use Rattle.matroid.specs.Set.{_∪_, _∩_, with, size}
 use Rattle.sets.specs.Bits.{bit}
-use Rattle.sets.specs.Words.{bit-high}
+use Rattle.sets.specs.Below.{bit-none}
 use Rattle.kinds.specs.ClassWords.{ClassWords, inWord, cappedSum, Room}
-
-bit-none : (j : ℕ) → bit 0 j ≡ false
-bit-none j = bit-high 0 j (pow-pos j)
 
 -- ---- the class words
 

@@ -8,14 +8,12 @@ use native.Mathlib.Omega.{arith}
 use native.Mathlib.Decide.{ℕ-discrete}
 use lib.Dec.{T, eqb, eqb→eq, ltb, ltb→lt, lt→ltb}
 use lib.ListN.{getD}
-use lib.Pow.{pow-pos}
 use Rattle.matroid.specs.Taut.{both, and-left, and-right}
 use Rattle.matroid.specs.Set.{Set, _∩_, _∖_, with, size, eq→eqb, with-cases, with-new, with-old}
 use Rattle.matroid.specs.Sum.{sum-same}
 use Rattle.matroid.specs.Division.{bundle}
 use Rattle.matroid.specs.Matroid.{Matroid, worth}
 use Rattle.sets.specs.Bits.{bit}
-use Rattle.sets.specs.Words.{bit-high}
 use Rattle.kinds.specs.Net.{Net, net}
 use Rattle.kinds.specs.Groups.{Bridges}
 use Rattle.kinds.specs.Caps.{classes, count, capsMatroid, caps-with, caps-worth}
@@ -24,11 +22,7 @@ use Rattle.kinds.specs.Labels.{Labelled, apartTest}
 use Rattle.kinds.specs.ClassWords.{ClassWords, inWord, cappedSum, Room}
 use Rattle.kinds.specs.Teams.{noneOf, Gains}
 use Rattle.kinds.proofs.Grouping.{grouped-labelled, apart-bridges}
-use Rattle.kinds.proofs.Below.{size-under}
-
--- the empty word
-bit-none : (j : ℕ) → bit 0 j ≡ false
-bit-none j = bit-high 0 j (pow-pos j)
+use Rattle.sets.specs.Below.{bit-none, size-under}
 
 -- where the channels are all taken nothing may join
 pub gains-none : {m : ℕ} (M : Matroid m) (A : Set) → ((j : ℕ) → j < m → T (not (A j)) → M .Indep (with A j) → ⊥) → Gains M A 0

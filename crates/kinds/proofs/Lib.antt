@@ -1,6 +1,5 @@
 pub mod Entries
 pub mod Relabel
-pub mod Below
 pub mod Members
 pub mod Grouping
 pub mod Labelling

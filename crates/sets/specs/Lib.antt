@@ -1,3 +1,4 @@
 pub mod Bits
 pub mod Words
 pub mod Lowest
+pub mod Below

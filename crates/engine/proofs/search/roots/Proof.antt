@@ -8,18 +8,12 @@ use lib.Dec.{T}
 use lib.ListN.{getD, getD-replicate}
 use Rattle.matroid.specs.Breadth.{Rooted, rooted-none, rooted-skip}
 use Rattle.sets.specs.Bits.{bit}
+use Rattle.sets.specs.Below.{none-there}
 use Rattle.engine.specs.Seats.{seatOf, holder, Ready}
-use Rattle.engine.proofs.Words.{roots-take, bit-none, seating, filler}
+use Rattle.engine.proofs.Words.{roots-take, seating, filler}
 use borrow.Author.Needs.{needs}
 use Rattle.engine.proofs.search.roots.Statement.{statement}
 use Rattle.engine.proofs.search.roots.Tie as tie
-use Rattle.engine.proofs.search.roots.Reads as reads
-use Rattle.engine.proofs.search.roots.Lts as lts
-use Rattle.engine.proofs.search.assigned.Reads as assigned-reads
-use Rattle.kinds.proofs.gains_of.Reads as gains-of-reads
-use Rattle.sets.proofs.either.Reads as either-reads
-use Rattle.sets.proofs.member.Reads as member-reads
-use Rattle.sets.proofs.minus.Reads as minus-reads
 
 abbrev Inv-loop : tie.InvT-loop
 Inv-loop sources bundles m n teams seen₀ to₀ t₀ seen to t = (t ≤ n) × ((owner : List ℕ) → Ready (seating m n teams) owner bundles → Rooted n (seatOf (seating m n teams)) (holder owner) (bit sources) t (bit seen) (λ x. getD to x 0))
@@ -28,7 +22,7 @@ abbrev μ-loop : tie.MeasureT-loop
 μ-loop sources bundles m n teams seen₀ to₀ t₀ seen to t = n - t
 
 loop-holds : tie.Need-loop-holds Inv-loop μ-loop
-loop-holds c = (search needs, λ owner ready. rooted-none _ _ _ _ _ _ bit-none)
+loop-holds c = (search needs, λ owner ready. rooted-none _ _ _ _ _ _ none-there)
 
 member-requires : tie.Need-member-requires Inv-loop μ-loop
 member-requires c κs = search needs

@@ -1,7 +1,7 @@
 use lib.ListN.{getD}
 use Rattle.sets.specs.Bits.{bit}
 use mathlib.Core.Path.{refl}
-use Rattle.kinds.proofs.Below.{below-size}
+use Rattle.sets.specs.Below.{below-size}
 use Rattle.kinds.proofs.Joining.{caps-gains, caps-full}
 use borrow.Author.Needs.{needs}
 use Rattle.kinds.proofs.caps.gains.Statement.{statement}

@@ -1,5 +1,5 @@
 use native.Mathlib.Omega.{arith}
-use Rattle.kinds.proofs.Below.{below-size}
+use Rattle.sets.specs.Below.{below-size}
 use borrow.Author.Needs.{needs}
 use Rattle.kinds.proofs.growing.spare.Statement.{statement}
 use Rattle.kinds.proofs.growing.spare.Tie as tie

@@ -6,7 +6,7 @@ use lib.ListN.{length, getD}
 use Rattle.plan.proofs.Lists.{getD-any}
 use Rattle.sets.specs.Bits.{bit}
 use Rattle.kinds.specs.Net.{net}
-use Rattle.kinds.proofs.Below.{below-size}
+use Rattle.sets.specs.Below.{below-size}
 use Rattle.kinds.proofs.Joining.{Free, free-none, free-take, free-skip, loops-gains, loops-full}
 use borrow.Author.Needs.{needs}
 use Rattle.kinds.proofs.loops.gains.Statement.{statement}

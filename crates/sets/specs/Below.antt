@@ -1,13 +1,22 @@
--- The members below m of a word, counted.
+-- The empty word, and the members below m of a word, counted.
 use Prim.Native.Nat.{ℕ, zero, suc, _≤_, _<_}
-use mathlib.Core.Path.{_≡_, refl, ap, _∙_, fun-ext}
-use mathlib.Core.Bool.{Bool, _&&_, and-false, and-true}
+use mathlib.Core.Path.{_≡_, refl, ap, _∙_, subst⁻¹, fun-ext}
+use mathlib.Core.Bool.{Bool, false, _&&_, not, and-false, and-true}
 use native.Mathlib.Omega.{arith}
 use native.Mathlib.Decide.{decLt}
-use lib.Dec.{ltb}
+use lib.Dec.{T, ltb}
+use lib.Pow.{pow-pos}
 use borrow.Author.Tests.{lt-ltb, le-ltb}
 use Rattle.matroid.specs.Set.{Set, _∩_, under, one, size}
 use Rattle.sets.specs.Bits.{bit}
+use Rattle.sets.specs.Words.{bit-high}
+
+-- the word 0 has no members
+pub bit-none : (j : ℕ) → bit 0 j ≡ false
+bit-none j = bit-high 0 j (pow-pos j)
+
+pub none-there : (j : ℕ) → T (not (bit 0 j))
+none-there j = subst⁻¹ (λ (b : Bool). T (not b)) (bit-none j) tt
 
 -- sets that agree below w have the same size there
 size-agree : (w : ℕ) (A B : Set) → ((k : ℕ) → k < w → A k ≡ B k) → size w A ≡ size w B
