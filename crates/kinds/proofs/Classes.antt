@@ -1,107 +1,138 @@
--- The loops over classes: the class words, the capped sum, and the classes with room.
-use Prim.Native.Nat.{ℕ, _+_, _≤_, _<_, min}
-use mathlib.Core.Path.{_≡_, refl, sym, ap, _∙_, subst, subst⁻¹, fun-ext}
-use mathlib.Core.Bool.{Bool, true, false, _&&_, _||_, or-true, or-false}
+-- The loops over classes: the counts, the capped sum, and the instruments with room.
+use Prim.Native.Nat.{ℕ, zero, suc, _+_, _≤_, _<_, min}
+use mathlib.Core.Path.{_≡_, refl, sym, ap, _∙_, subst, subst⁻¹}
+use mathlib.Core.Bool.{Bool, true, false, _&&_, not, and-false}
 use mathlib.Core.Logic.{_≢_, inl, inr}
 use mathlib.Core.List.{List}
 use native.Mathlib.Omega.{arith}
 use native.Mathlib.Numerals.{add-one}
-use native.Mathlib.Decide.{ℕ-discrete, decLt}
-use lib.Dec.{T, eqb, ltb}
+use native.Mathlib.Decide.{ℕ-discrete}
+use lib.Dec.{T, eqb, not-T, T-not}
 use lib.ListN.{length, getD, set, replicate, length-set, getD-replicate}
 use lib.Seq.{getD-set-same, getD-set-other}
-use borrow.Author.Tests.{lt-ltb, le-ltb, eq-eqb, ne-eqb}
-use Rattle.matroid.specs.Taut.{or-cases, follows₂}
-use Rattle.matroid.specs.Set.{_∪_, _∩_, with, size}
+use borrow.Author.Tests.{eq-eqb, ne-eqb}
+use Rattle.matroid.specs.Taut.{T→true, T→false}
+use Rattle.matroid.specs.Set.{Set, _∩_, with, one, size, size-le, size-with-in, with-cases, with-new, with-old}
+use Rattle.matroid.specs.Division.{bundle}
 use Rattle.sets.specs.Bits.{bit}
 use Rattle.sets.specs.Below.{bit-none}
-use Rattle.kinds.specs.ClassWords.{ClassWords, inWord, cappedSum, Room}
+use Rattle.kinds.specs.Caps.{count}
+use Rattle.kinds.specs.Counts.{classIn, Counts, cappedSum, HasRoom, Room}
+use Rattle.kinds.specs.Groups.{run}
+use Rattle.kinds.proofs.Members.{Rests}
 
--- ---- the class words
+-- ---- the counts
 
-pub words-none : (class : List ℕ) → ClassWords class 0 (replicate 16 0)
-words-none class = record { long = refl; at = λ c l j. rw (getD-replicate {A = ℕ} 16 c 0 0 l, le-ltb j 0 (omega arith)) (bit-none j) }
+pub counts-none : (class : List ℕ) (A : Set) → Counts class 0 A (replicate 16 0)
+counts-none class A = record { long = refl; at = λ c l. getD-replicate {A = ℕ} 16 c 0 0 l }
 
-module _ (class : List ℕ) (g : ℕ) (words : List ℕ) (w : ClassWords class g words) where
-  -- below g + 1, apart from g, is below g
-  other : (j : ℕ) → j ≢ g → ltb j (g + 1) ≡ ltb j g
-  other j d = elim (decLt j g) [
-    | yes l ↦ lt-ltb j (g + 1) (omega arith) ∙ sym (lt-ltb j g l)
-    | no n ↦ le-ltb j (g + 1) (omega arith) ∙ sym (le-ltb j g (omega arith))
-  ]
+-- no count is above the number gone through
+pub counts-few : (class : List ℕ) (n : ℕ) (A : Set) (counts : List ℕ) → Counts class n A counts → (c : ℕ) → c < 16 → getD counts c 0 ≤ n
+counts-few class n A counts h c l = let e = h .at c l in let few = size-le n (bundle (classIn class) c ∩ A) in omega arith
 
-  -- an instrument in no class changes no word
-  pub words-skip : 16 ≤ getD class g 255 → ClassWords class (g + 1) words
-  words-skip h = record { long = w .long; at = λ c l j. w .at c l j ∙ go c l j (ℕ-discrete j g) }
+-- where A has no members on the way, no count changes
+pub counts-rests : (class : List ℕ) (A : Set) (g : ℕ) (counts : List ℕ) → Rests A g (λ n. Counts class n A counts)
+counts-rests class A g counts n l none h = record {
+  long = h .long;
+  at = λ c b. h .at c b ∙ run (λ k. size k (bundle (classIn class) c ∩ A)) n g l
+      (λ k lo hi. let z = ap one (ap (λ (b : Bool). eqb (classIn class k) c && b) (T→false (A k) (none k lo hi)) ∙ and-false (eqb (classIn class k) c)) in omega arith);
+}
+
+module _ (class : List ℕ) (A : Set) (g : ℕ) (counts : List ℕ) (h : Counts class g A counts) (member : T (A g)) where
+  -- the count of c after g
+  count-next : (c : ℕ) (x : Bool) → eqb (classIn class g) c ≡ x → count (g + 1) (classIn class) A c ≡ count g (classIn class) A c + one x
+  count-next c x e = rw (add-one g) (let z = ap one (ap (λ (b : Bool). b && A g) e ∙ ap (λ (b : Bool). x && b) (T→true (A g) member) ∙ keep x) in omega arith)
     where
-      go : (c : ℕ) → c < 16 → (j : ℕ) → Dec (j ≡ g) → (ltb j g && eqb (getD class j 255) c) ≡ (ltb j (g + 1) && eqb (getD class j 255) c)
-      go c l j (yes e) = rw (e, le-ltb g g (omega arith), lt-ltb g (g + 1) (omega arith), ne-eqb (getD class g 255) c (omega arith)) refl
-      go c l j (no d) = ap (λ (b : Bool). b && eqb (getD class j 255) c) (sym (other j d))
+      keep : (b : Bool) → (b && true) ≡ b
+      keep true = refl
+      keep false = refl
 
-  -- an instrument joins the word of its class
-  pub words-put : (k word : ℕ) (next : List ℕ) → k ≡ getD class g 255 → k < 16 → ((j : ℕ) → bit word j ≡ with (bit (getD words k 0)) g j) → next ≡ set words k word → ClassWords class (g + 1) next
-  words-put k word next is small h e = rw e (record { long = length-set words k word ∙ w .long; at = λ c l j. go c l j (ℕ-discrete c k) })
+  -- an instrument in no class changes no count
+  pub counts-skip : 16 ≤ classIn class g → Counts class (g + 1) A counts
+  counts-skip out = record { long = h .long; at = λ c l. let e = h .at c l in let n = count-next c false (ne-eqb (classIn class g) c (omega arith)) in omega arith }
+
+  -- an instrument of class k is one more there
+  pub counts-put : (k : ℕ) (next : List ℕ) → k ≡ classIn class g → k < 16 → next ≡ set counts k (getD counts k 0 + 1) → Counts class (g + 1) A next
+  counts-put k next is small e = rw e (record { long = length-set counts k _ ∙ h .long; at = λ c l. go c l (ℕ-discrete c k) })
     where
-      wide : length words ≡ 16
-      wide = w .long
+      wide : length counts ≡ 16
+      wide = h .long
 
-      -- in the class's own word
-      own : (j : ℕ) → Dec (j ≡ g) → with (bit (getD words k 0)) g j ≡ (ltb j (g + 1) && eqb (getD class j 255) k)
-      own j (yes e) = rw (e, w .at k small g, eq-eqb g g refl, lt-ltb g (g + 1) (omega arith), eq-eqb (getD class g 255) k (sym is)) (or-true (ltb g g && true))
-      own j (no d) = rw (w .at k small j, ne-eqb j g d, other j d) (or-false (ltb j g && eqb (getD class j 255) k))
+      go : (c : ℕ) → c < 16 → Dec (c ≡ k) → getD (set counts k (getD counts k 0 + 1)) c 0 ≡ count (g + 1) (classIn class) A c
+      go c l (yes same) =
+          let was = h .at k small in
+          let n = count-next k true (eq-eqb (classIn class g) k (sym is)) in
+          rw same (getD-set-same counts k _ 0 (omega arith) ∙ sum-is _ _ _ was n)
+        where
+          sum-is : (a b c : ℕ) → a ≡ b → c ≡ b + 1 → a + 1 ≡ c
+          sum-is a b c p q = omega arith
+      go c l (no differ) =
+          let was = h .at c l in
+          let n = count-next c false (ne-eqb (classIn class g) c (λ e. differ (sym e ∙ sym is))) in
+          getD-set-other counts k c _ 0 differ ∙ same-is _ _ _ was n
+        where
+          same-is : (a b c : ℕ) → a ≡ b → c ≡ b + 0 → a ≡ c
+          same-is a b c p q = omega arith
 
-      -- in another
-      away : (c : ℕ) → c ≢ k → (j : ℕ) → Dec (j ≡ g) → (ltb j g && eqb (getD class j 255) c) ≡ (ltb j (g + 1) && eqb (getD class j 255) c)
-      away c d j (yes e) = rw (e, le-ltb g g (omega arith), lt-ltb g (g + 1) (omega arith), ne-eqb (getD class g 255) c (omega arith)) refl
-      away c d j (no d′) = ap (λ (b : Bool). b && eqb (getD class j 255) c) (sym (other j d′))
+-- a member that joins is one more in its class
+pub counts-join : (class : List ℕ) (m : ℕ) (A : Set) (counts : List ℕ) → Counts class m A counts → (g k : ℕ) (next : List ℕ) → g < m → T (not (A g)) → k ≡ classIn class g → k < 16
+    → next ≡ set counts k (getD counts k 0 + 1) → Counts class m (with A g) next
+counts-join class m A counts h g k next l out is small e = rw e (record { long = length-set counts k _ ∙ h .long; at = λ c b. go c b (ℕ-discrete c k) })
+  where
+    wide : length counts ≡ 16
+    wide = h .long
 
-      go : (c : ℕ) → c < 16 → (j : ℕ) → Dec (c ≡ k) → bit (getD (set words k word) c 0) j ≡ (ltb j (g + 1) && eqb (getD class j 255) c)
-      go c l j (yes same) = rw (same, getD-set-same words k word 0 (omega arith)) (h j ∙ own j (ℕ-discrete j g))
-      go c l j (no differ) = rw (getD-set-other words k c word 0 differ) (w .at c l j ∙ away c differ j (ℕ-discrete j g))
+    joined : (c : ℕ) (x : Bool) → eqb (classIn class g) c ≡ x → count m (classIn class) (with A g) c ≡ count m (classIn class) A c + one x
+    joined c x q = size-with-in m (bundle (classIn class) c) A g l out ∙ ap (λ (b : Bool). count m (classIn class) A c + one b) q
+
+    sum-is : (a b c d : ℕ) → a ≡ b → c ≡ b + d → a + d ≡ c
+    sum-is a b c d p q = omega arith
+
+    none-is : (a b c : ℕ) → a ≡ b → c ≡ b + 0 → a ≡ c
+    none-is a b c p q = omega arith
+
+    go : (c : ℕ) → c < 16 → Dec (c ≡ k) → getD (set counts k (getD counts k 0 + 1)) c 0 ≡ count m (classIn class) (with A g) c
+    go c b (yes same) = rw same (getD-set-same counts k _ 0 (omega arith) ∙ sum-is _ _ _ 1 (h .at k small) (joined k true (eq-eqb (classIn class g) k (sym is))))
+    go c b (no differ) = getD-set-other counts k c _ 0 differ ∙ none-is _ _ _ (h .at c b) (joined c false (ne-eqb (classIn class g) c (λ q. differ (sym q ∙ sym is))))
 
 -- ---- the capped sum
 
-pub sum-none : (words cap : List ℕ) (set : ℕ) → 0 ≡ cappedSum words cap set 0
+pub sum-none : (counts cap : List ℕ) → 0 ≡ cappedSum counts cap 0
 unfolding cappedSum
-sum-none words cap set = refl
+sum-none counts cap = refl
 
-module _ (words cap : List ℕ) (set c : ℕ) where
-  -- the count of the members in a word, as the code has it
-  pub counted : (both r : ℕ) → ((j : ℕ) → bit both j ≡ (bit (getD words c 0) ∩ bit set) j) → r ≡ size 64 (bit both) → r ≡ inWord words set c
-  unfolding inWord
-  counted both r h e = e ∙ ap (size 64) (fun-ext h)
+pub sum-more : (counts cap : List ℕ) (c total most : ℕ) → total ≡ cappedSum counts cap c → most ≡ min (getD cap c 0) (getD counts c 0) → total + most ≡ cappedSum counts cap (c + 1)
+unfolding cappedSum
+sum-more counts cap c total most e f = rw (add-one c, e, f) refl
 
-  pub sum-more : (total most r : ℕ) → total ≡ cappedSum words cap set c → most ≡ min (getD cap c 0) r → r ≡ inWord words set c → total + most ≡ cappedSum words cap set (c + 1)
-  unfolding cappedSum
-  sum-more total most r e f g = rw (add-one c, e, f, g) refl
+-- ---- the instruments with room
 
--- ---- the classes with room
+pub room-none : (class cap counts : List ℕ) → Room class cap counts 0 0
+room-none class cap counts = record { at = λ j. (λ t. absurd (subst T (bit-none j) t), λ (l, _). absurd (omega arith)) }
 
-pub room-none : (words cap : List ℕ) (set : ℕ) → Room words cap set 0 0
-room-none words cap set = record { at = λ j. (λ t. absurd (subst T (bit-none j) t), λ (c, l, _). absurd (omega arith)) }
-
-module _ (words cap : List ℕ) (set n r : ℕ) (h : Room words cap set n r) where
-  pub room-take : (next : ℕ) → inWord words set n < getD cap n 0 → ((j : ℕ) → bit next j ≡ (bit r ∪ bit (getD words n 0)) j) → Room words cap set (n + 1) next
-  room-take next fewer is = record {
+module _ (class cap counts : List ℕ) (g r : ℕ) (h : Room class cap counts g r) where
+  pub room-take : (next : ℕ) → HasRoom class cap counts g → ((j : ℕ) → bit next j ≡ with (bit r) g j) → Room class cap counts (g + 1) next
+  room-take next has is = record {
     at = λ j. (
-      λ t. elim (or-cases (bit r j) (bit (getD words n 0) j) (subst T (is j) t)) [
-        | inl old ↦ let (c, l, rest) = h .at j .0 old in (c, omega arith, rest)
-        | inr new ↦ (n, omega arith, (fewer, new))
+      λ t. elim (with-cases (bit r) g j (subst T (is j) t)) [
+        | inl old ↦ let (l, rest) = h .at j .0 old in (omega arith, rest)
+        | inr e ↦ (omega arith, subst⁻¹ (HasRoom class cap counts) e has)
       ],
-      λ (c, l, rest). subst⁻¹ T (is j) (elim (ℕ-discrete c n) [
-        | yes e ↦ follows₂ (λ a b. b) (λ a b. a || b) tt (bit r j) (bit (getD words n 0) j) (subst (λ (c : ℕ). T (bit (getD words c 0) j)) e (rest .1))
-        | no d ↦ follows₂ (λ a b. a) (λ a b. a || b) tt (bit r j) (bit (getD words n 0) j) (h .at j .1 (c, omega arith, rest))
+      λ (l, rest). subst⁻¹ T (is j) (elim (ℕ-discrete j g) [
+        | yes e ↦ subst⁻¹ (λ (k : ℕ). T (with (bit r) g k)) e (with-new (bit r) g)
+        | no d ↦ with-old {m = suc j} (bit r) g .at j (omega arith) (h .at j .1 (omega arith, rest))
       ]),
     );
   }
 
-  pub room-skip : getD cap n 0 ≤ inWord words set n → Room words cap set (n + 1) r
-  room-skip full = record {
+  -- g is in no class, or its class is full
+  pub room-skip : (HasRoom class cap counts g → ⊥) → Room class cap counts (g + 1) r
+  room-skip never = record {
     at = λ j. (
-      λ t. let (c, l, rest) = h .at j .0 t in (c, omega arith, rest),
-      λ (c, l, rest). elim (ℕ-discrete c n) [
-        | yes e ↦ let fewer = subst (λ (c : ℕ). inWord words set c < getD cap c 0) e (rest .0) in absurd (omega arith)
-        | no d ↦ h .at j .1 (c, omega arith, rest)
+      λ t. let (l, rest) = h .at j .0 t in (omega arith, rest),
+      λ (l, rest). elim (ℕ-discrete j g) [
+        | yes e ↦ absurd (never (subst (HasRoom class cap counts) e rest))
+        | no d ↦ h .at j .1 (omega arith, rest)
       ],
     );
   }

@@ -1,6 +1,6 @@
 -- What may join an independent set, as words.
 use Prim.Native.Nat.{ℕ, suc, _+_, _≤_, _<_, min}
-use mathlib.Core.Path.{_≡_, refl, ap, _∙_, subst, subst⁻¹, fun-ext}
+use mathlib.Core.Path.{_≡_, sym, ap, _∙_, subst, subst⁻¹}
 use mathlib.Core.Bool.{Bool, true, false, _&&_, not}
 use mathlib.Core.Logic.{_↔_, inl, inr}
 use mathlib.Core.List.{List}
@@ -19,10 +19,10 @@ use Rattle.kinds.specs.Groups.{Bridges}
 use Rattle.kinds.specs.Caps.{classes, count, capsMatroid, caps-with, caps-worth}
 use Rattle.kinds.specs.Loops.{loopsMatroid, loops-with}
 use Rattle.kinds.specs.Labels.{Labelled, apartTest}
-use Rattle.kinds.specs.ClassWords.{ClassWords, inWord, cappedSum, Room}
+use Rattle.kinds.specs.Counts.{classIn, Counts, cappedSum, Room}
 use Rattle.kinds.specs.Teams.{noneOf, Gains}
 use Rattle.kinds.proofs.Grouping.{grouped-labelled, apart-bridges}
-use Rattle.sets.specs.Below.{bit-none, size-under}
+use Rattle.sets.specs.Below.{bit-none}
 
 -- where the channels are all taken nothing may join
 pub gains-none : {m : ℕ} (M : Matroid m) (A : Set) → ((j : ℕ) → j < m → T (not (A j)) → M .Indep (with A j) → ⊥) → Gains M A 0
@@ -92,63 +92,36 @@ module _ (m channels : ℕ) (endA endB : ℕ → ℕ) (A : Set) where
 
 -- ---- CAPS
 
-module _ (m channels : ℕ) (small : m ≤ 64) (class : List ℕ) (cap : ℕ → ℕ) (words : List ℕ) (w : ClassWords class m words) (set : ℕ) where
-  abbrev classOf : ℕ → ℕ
-  classOf j = getD class j 255
-
-  -- a word counts the members of its class
-  pub in-class : (c : ℕ) → c < 16 → inWord words set c ≡ count m classOf (bit set) c
-  unfolding inWord
-  in-class c l = ap (size 64) (fun-ext (λ j. ap (λ (b : Bool). b && bit set j) (w .at c l j) ∙ turn (ltb j m) (eqb (classOf j) c) (bit set j))) ∙ size-under 64 m (bundle classOf c ∩ bit set) small
-    where
-      turn : (a b s : Bool) → ((a && b) && s) ≡ ((b && s) && a)
-      turn true true true = refl
-      turn true true false = refl
-      turn true false s = refl
-      turn false true true = refl
-      turn false true false = refl
-      turn false false s = refl
-
-  -- the words of the classes with room hold what is put in a class that has room
-  room-iff : (caps : List ℕ) (room : ℕ) → ((c : ℕ) → cap c ≡ getD caps c 0) → Room words caps set 16 room
-      → (j : ℕ) → T (bit room j) ↔ ((j < m) × (classOf j < 16) × (count m classOf (bit set) (classOf j) < cap (classOf j)))
-  room-iff caps room is r j = (
-    λ t.
-        let (c, l, (fewer, t′)) = r .at j .0 t in
-        let u = subst T (w .at c l j) t′ in
-        let e = eqb→eq (classOf j) c (and-right (ltb j m) _ u) in
-        let same = in-class c l in
-        let most = is c in
-        (ltb→lt j m (and-left (ltb j m) _ u), omega arith, subst⁻¹ (λ (c : ℕ). count m classOf (bit set) c < cap c) e (omega arith)),
-    λ (l, small-class, fewer).
-        let c = classOf j in
-        let same = in-class c small-class in
-        let most = is c in
-        r .at j .1 (c, small-class, (omega arith, subst⁻¹ T (w .at c small-class j) (both (ltb j m) _ (lt→ltb j m l) (eq→eqb c c refl)))),
-  )
+module _ (m channels : ℕ) (class caps counts : List ℕ) (set : ℕ) (h : Counts class m (bit set) counts) where
+  abbrev capOf : ℕ → ℕ
+  capOf c = getD caps c 0
 
   -- with a channel left, what is put in a class with room may join
-  pub caps-gains : (caps : List ℕ) (room r : ℕ) → ((c : ℕ) → cap c ≡ getD caps c 0) → Room words caps set 16 room → size m (bit set) < channels → ((j : ℕ) → bit r j ≡ (bit room ∖ bit set) j)
-      → capsMatroid m channels classOf cap .Indep (bit set) → Gains (capsMatroid m channels classOf cap) (bit set) r
+  pub caps-gains : (room r : ℕ) → Room class caps counts m room → size m (bit set) < channels → ((j : ℕ) → bit r j ≡ (bit room ∖ bit set) j)
+      → capsMatroid m channels (classIn class) capOf .Indep (bit set) → Gains (capsMatroid m channels (classIn class) capOf) (bit set) r
   unfolding classes
-  caps-gains caps room r eq h free is i = record {
+  caps-gains room r has free is i = record {
     at = λ j. (
       λ t.
           let u = subst T (is j) t in
-          let (l, p, f) = room-iff caps room eq h j .0 (and-left (bit room j) _ u) in
+          let (l, (p, f)) = has .at j .0 (and-left (bit room j) _ u) in
           let out = and-right (bit room j) _ u in
-          (l, (out, caps-with m channels classOf cap (bit set) j i l out .1 (record { placed = p; fewer = f; channel = free }))),
+          let e = h .at (classIn class j) p in
+          (l, (out, caps-with m channels (classIn class) capOf (bit set) j i l out .1 (record { placed = p; fewer = omega arith; channel = free }))),
       λ (l, (out, joins)).
-          let x = caps-with m channels classOf cap (bit set) j i l out .0 joins in
-          subst⁻¹ T (is j) (both (bit room j) _ (room-iff caps room eq h j .1 (l, x .placed, x .fewer)) out),
+          let x = caps-with m channels (classIn class) capOf (bit set) j i l out .0 joins in
+          let p = x .placed in
+          let f = x .fewer in
+          let e = h .at (classIn class j) p in
+          subst⁻¹ T (is j) (both (bit room j) _ (has .at j .1 (l, (p, omega arith))) out),
     );
   }
 
-  -- a set is worth what its words have, up to the caps and the channels
-  pub caps-sum : (caps : List ℕ) → ((c : ℕ) → cap c ≡ getD caps c 0) → worth (capsMatroid m channels classOf cap) (bit set) ≡ min channels (cappedSum words caps set 16)
+  -- a set is worth what its classes have, up to the caps and the channels
+  pub caps-sum : worth (capsMatroid m channels (classIn class) capOf) (bit set) ≡ min channels (cappedSum counts caps 16)
   unfolding classes cappedSum
-  caps-sum caps eq = caps-worth m channels classOf cap (bit set)
-      ∙ ap (min channels) (sum-same 16 (λ c. min (cap c) (count m classOf (bit set) c)) (λ c. min (getD caps c 0) (inWord words set c)) (λ c l. rw (eq c, in-class c l) refl))
+  caps-sum = caps-worth m channels (classIn class) capOf (bit set)
+      ∙ ap (min channels) (sum-same 16 (λ c. min (capOf c) (count m (classIn class) (bit set) c)) (λ c. min (capOf c) (getD counts c 0)) (λ c l. ap (min (capOf c)) (sym (h .at c l))))
 
 pub caps-full : (m channels : ℕ) (class cap : ℕ → ℕ) (A : Set) → channels ≤ size m A → capsMatroid m channels class cap .Indep A → Gains (capsMatroid m channels class cap) A 0
 caps-full m channels class cap A full i = gains-none (capsMatroid m channels class cap) A (λ j l out joins. let room = caps-with m channels class cap A j i l out .0 joins .channel in omega arith)

@@ -6,7 +6,7 @@ use mathlib.Core.Logic.{_⊎_, inl, inr, _↔_}
 use mathlib.Core.List.{List}
 use native.Mathlib.Omega.{arith}
 use lib.Dec.{T, eqb, eqb→eq, ltb→lt, not-T}
-use lib.ListN.{getD}
+use lib.ListN.{getD, set}
 use Rattle.matroid.specs.Taut.{both, and-left, and-right, or-cases, follows₂}
 use Rattle.matroid.specs.Set.{Set, under, with, without, size, size-with, eqb→ne}
 use Rattle.matroid.specs.Matroid.{Matroid}
@@ -17,10 +17,10 @@ use Rattle.kinds.specs.Groups.{Bridges}
 use Rattle.kinds.specs.Caps.{classes, capsMatroid, caps-with, caps-indep}
 use Rattle.kinds.specs.Loops.{loopsMatroid, loops-with, loops-indep}
 use Rattle.kinds.specs.Labels.{Labelled, Relabelled, apartTest}
-use Rattle.kinds.specs.ClassWords.{ClassWords, inWord}
+use Rattle.kinds.specs.Counts.{classIn, Counts}
 use Rattle.kinds.specs.Teams.{Grown}
 use Rattle.kinds.proofs.Grouping.{Grouped, grouped-labelled, grouped-take, apart-bridges}
-use Rattle.kinds.proofs.Joining.{in-class}
+use Rattle.kinds.proofs.Classes.{counts-join}
 
 -- a set is itself, with nothing added
 pub grown-same : {m : ℕ} (M : Matroid m) (set from : ℕ) → Grown M set from set
@@ -105,18 +105,15 @@ module _ (m channels : ℕ) (class cap : ℕ → ℕ) where
   pub caps-within : (A : Set) → capsMatroid m channels class cap .Indep A → size m A ≤ channels
   caps-within A i = caps-indep m channels class cap A .0 i .1
 
--- an instrument of a class with room may join
-pub caps-join : (m channels : ℕ) → m ≤ 64 → (class caps words : List ℕ) → ClassWords class m words → (larger g c : ℕ) → c ≡ getD class g 255 → c < 16 → g < m → T (not (bit larger g))
-    → inWord words larger c < getD caps c 0 → capsMatroid m channels (λ i. getD class i 255) (λ k. getD caps k 0) .Indep (bit larger) → size m (bit larger) < channels → Unit {0}
-    → capsMatroid m channels (λ i. getD class i 255) (λ k. getD caps k 0) .Indep (with (bit larger) g) × Unit {0}
+-- an instrument of a class with room may join, and is one more there
+pub caps-join : (m channels : ℕ) (class caps counts : List ℕ) (larger g c : ℕ) (next : List ℕ) → c ≡ classIn class g → c < 16 → g < m → T (not (bit larger g))
+    → getD counts c 0 < getD caps c 0 → next ≡ set counts c (getD counts c 0 + 1) → (more : ℕ) → ((j : ℕ) → bit more j ≡ with (bit larger) g j)
+    → capsMatroid m channels (classIn class) (λ k. getD caps k 0) .Indep (bit larger) → size m (bit larger) < channels → Counts class m (bit larger) counts
+    → capsMatroid m channels (classIn class) (λ k. getD caps k 0) .Indep (with (bit larger) g) × Counts class m (bit more) next
 unfolding classes
-caps-join m channels small class caps words w larger g c is lc l out fewer i room q =
-    let same = in-class m channels small class (λ k. getD caps k 0) words w larger c lc in
-    let here = subst (λ (k : ℕ). inWord words larger k < getD caps k 0) is fewer in (
-      caps-with m channels (λ i. getD class i 255) (λ k. getD caps k 0) (bit larger) g i l out .1 (record {
-        placed = omega arith;
-        fewer = rw (← is) (rw (← same) fewer);
-        channel = room;
-      }),
-      tt,
+caps-join m channels class caps counts larger g c next is lc l out fewer is-next more is-more i room h =
+    let here = rw is at fewer in
+    let e = h .at (classIn class g) (omega arith) in (
+      caps-with m channels (classIn class) (λ k. getD caps k 0) (bit larger) g i l out .1 (record { placed = omega arith; fewer = omega arith; channel = room }),
+      subst⁻¹ (λ (A : Set). Counts class m A next) (fun-ext is-more) (counts-join class m (bit larger) counts h g c next l out is lc is-next),
     )

@@ -4,6 +4,6 @@ pub mod Trail
 pub mod Groups
 pub mod Loops
 pub mod Accepted
-pub mod ClassWords
+pub mod Counts
 pub mod Labels
 pub mod Teams

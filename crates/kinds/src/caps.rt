@@ -1,28 +1,33 @@
-// CAPS: a class holds at most its cap. Classes are kept as words, and counted by their ones.
+// CAPS: a class holds at most its cap. The members of a set are counted by class.
 ghost use mathlib.Core.Path.{_≡_};
 ghost use Prim.Native.Nat.{_≤_, min};
 ghost use Rattle.matroid.specs.Matroid.{worth};
 ghost use Rattle.sets.specs.Bits.{bit};
-ghost use Rattle.kinds.specs.ClassWords.{ClassWords, cappedSum, Room};
+ghost use Rattle.kinds.specs.Counts.{Counts, Room, cappedSum};
 ghost use Rattle.kinds.specs.Teams.{capsOf, Gains, Grown};
 use super::growing::candidates;
 use super::growing::spare;
 use super::growing::wide;
 use plan::Team;
 
-// The instruments below m of each class.
-fn class_words(class: [u8; 64], m: usize) -> [u64; 16]
+// How many members of a set below m each class has.
+fn class_counts(class: [u8; 64], m: usize, set: u64) -> [u8; 16]
     requires { ⌜ m ≤ 64 ⌝ }
-    ensures { λ r. ⌜ ClassWords class m r ⌝ }
+    ensures { λ r. ⌜ Counts class m (bit set) r ⌝ }
 {
-    let mut words = [0u64; 16];
-    for g in 0..m {
-        let c = class[g] as usize;
-        if c < 16 {
-            words[c] = sets::with(words[c], g);
+    let mut counts = [0u8; 16];
+    let mut left = sets::both(set, sets::all_below(m));
+    loop {
+        let g = sets::lowest(left);
+        if g >= 64 {
+            return counts;
         }
+        let c = wide(class[g]);
+        if c < 16 {
+            counts[c] = counts[c] + 1;
+        }
+        left = sets::without(left, g);
     }
-    words
 }
 
 // The lesser of two numbers.
@@ -33,13 +38,12 @@ fn least(a: usize, b: usize) -> usize
 }
 
 // The members of each class, at most its cap, added up.
-fn capped_sum(words: [u64; 16], cap: [u8; 16], set: u64) -> usize
-    ensures { λ r. ⌜ r ≡ cappedSum words cap set 16 ⌝ }
+fn capped_sum(counts: [u8; 16], cap: [u8; 16]) -> usize
+    ensures { λ r. ⌜ r ≡ cappedSum counts cap 16 ⌝ }
 {
     let mut total: usize = 0;
     for c in 0..16usize {
-        let most = cap[c] as usize;
-        total += least(most, sets::size(sets::both(words[c], set)));
+        total += least(wide(cap[c]), wide(counts[c]));
     }
     total
 }
@@ -52,18 +56,21 @@ pub fn worth(team: Team, m: usize, set: u64) -> usize
     let class = team.class;
     let cap = team.cap;
     let channels = team.channels as usize;
-    least(channels, capped_sum(class_words(class, m), cap, set))
+    least(channels, capped_sum(class_counts(class, m, set), cap))
 }
 
-// The instruments of the classes of which a set has fewer than the cap.
-fn with_room(words: [u64; 16], cap: [u8; 16], set: u64) -> u64
-    ensures { λ r. ⌜ Room words cap set 16 r ⌝ }
+// The instruments below m of the classes that have fewer members than their caps.
+fn with_room(class: [u8; 64], cap: [u8; 16], counts: [u8; 16], m: usize) -> u64
+    requires { ⌜ m ≤ 64 ⌝ }
+    ensures { λ r. ⌜ Room class cap counts m r ⌝ }
 {
     let mut room: u64 = 0;
-    for c in 0..16usize {
-        let most = cap[c] as usize;
-        if sets::size(sets::both(words[c], set)) < most {
-            room = sets::either(room, words[c]);
+    for g in 0..m {
+        let c = wide(class[g]);
+        if c < 16 {
+            if counts[c] < cap[c] {
+                room = sets::with(room, g);
+            }
         }
     }
     room
@@ -80,7 +87,7 @@ pub fn gains(team: Team, m: usize, set: u64) -> u64
     if channels <= sets::size(sets::both(set, sets::all_below(m))) {
         return 0;
     }
-    sets::minus(with_room(class_words(class, m), cap, set), set)
+    sets::minus(with_room(class, cap, class_counts(class, m, set), m), set)
 }
 
 // An independent set of a CAPS team with members of another, in rising order, at most so many.
@@ -90,8 +97,8 @@ pub fn grown(team: Team, m: usize, set: u64, from: u64, most: usize) -> u64
 {
     let class = team.class;
     let cap = team.cap;
-    let words = class_words(class, m);
     let channels = team.channels as usize;
+    let mut counts = class_counts(class, m, set);
     let mut larger = set;
     let mut room = spare(channels, m, set, most);
     let mut left = candidates(m, set, from);
@@ -105,8 +112,8 @@ pub fn grown(team: Team, m: usize, set: u64, from: u64, most: usize) -> u64
         }
         let c = wide(class[g]);
         if c < 16 {
-            let limit = wide(cap[c]);
-            if sets::size(sets::both(words[c], larger)) < limit {
+            if counts[c] < cap[c] {
+                counts[c] = counts[c] + 1;
                 larger = sets::with(larger, g);
                 room -= 1;
             }

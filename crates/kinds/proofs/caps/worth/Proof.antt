@@ -1,6 +1,5 @@
 use Prim.Native.Nat.{min}
-use lib.ListN.{getD}
-use mathlib.Core.Path.{refl, sym, _∙_, ap}
+use mathlib.Core.Path.{sym, _∙_, ap}
 use Rattle.kinds.proofs.Joining.{caps-sum}
 use borrow.Author.Needs.{needs}
 use Rattle.kinds.proofs.caps.worth.Statement.{statement}
@@ -9,8 +8,8 @@ use Rattle.kinds.proofs.caps.worth.Tie as tie
 cast-channels : tie.Need-cast-channels
 cast-channels c = search needs
 
-class-words-requires : tie.Need-class-words-requires
-class-words-requires c κs = search needs
+class-counts-requires : tie.Need-class-counts-requires
+class-counts-requires c κs = search needs
 
 capped-sum-requires : tie.Need-capped-sum-requires
 capped-sum-requires c κs = search needs
@@ -19,9 +18,9 @@ least-requires : tie.Need-least-requires
 least-requires c κs = search needs
 
 returns : tie.Need-returns
-returns c = c .least .ensures ∙ ap (min (c .before .before .before .before .before .before .args .team .channels)) (c .before .capped-sum .ensures) ∙ sym (caps-sum (c .before .before .before .before .before .before .args .m) (c .before .before .before .before .before .before .args .team .channels) (c .before .before .before .before .before .before .pre) (c .before .before .before .before .before .before .args .team .class) (λ k. getD (c .before .before .before .before .before .before .args .team .cap) k 0) (c .before .before .class-words .result) (c .before .before .class-words .ensures) (c .before .before .before .before .before .before .args .set) (c .before .before .before .before .before .before .args .team .cap) (λ c. refl))
+returns c = c .least .ensures ∙ ap (min (c .before .before .before .before .before .before .args .team .channels)) (c .before .capped-sum .ensures) ∙ sym (caps-sum (c .before .before .before .before .before .before .args .m) (c .before .before .before .before .before .before .args .team .channels) (c .before .before .before .before .before .before .args .team .class) (c .before .before .before .before .before .before .args .team .cap) _ (c .before .before .before .before .before .before .args .set) (c .before .before .class-counts .ensures))
 
 pub worth-spec : {M : Type 1} → statement M
 worth-spec =
     tie.close
-    (tie.spec cast-channels class-words-requires capped-sum-requires least-requires returns)
+    (tie.spec cast-channels class-counts-requires capped-sum-requires least-requires returns)
