@@ -55,6 +55,7 @@ fn refusal(number: u64, place: u64) {
     io::write_all(STDOUT_FILENO, b"\n");
 }
 
+// Of standard input the first 4,096 bytes are read: by Read's theorem `first-bytes` they decide the answer.
 fn main() {
     let mut space = io::buffer();
     let n = io::read_full(STDIN_FILENO, &mut space);

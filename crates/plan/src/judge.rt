@@ -5,6 +5,7 @@ use super::Command;
 use super::State;
 use super::Team;
 
+// START: at the file's start, version 1, at most 64 instruments.
 fn start_fault(at: usize, version: u8, m: u8) -> usize
     ensures { λ r. ⌜ r ≡ startFault at version m ⌝ }
 {
@@ -17,12 +18,14 @@ fn start_fault(at: usize, version: u8, m: u8) -> usize
     if m > 64 { 5 } else { 0 }
 }
 
+// CAPS and LOOPS: at most twelve teams.
 fn team_fault(s: State) -> usize
     ensures { λ r. ⌜ r ≡ teamFault s ⌝ }
 {
     if s.n >= 12 { 7 } else { 0 }
 }
 
+// CLASS: in a CAPS team, a class below 16, capped once.
 fn class_fault(s: State, kind: u8, class: u8) -> usize
     ensures { λ r. ⌜ r ≡ classFault s kind class ⌝ }
 {
@@ -35,6 +38,7 @@ fn class_fault(s: State, kind: u8, class: u8) -> usize
     if s.capped[class as usize] { 6 } else { 0 }
 }
 
+// PUT: in a CAPS team, an instrument below m, a class below 16, named once.
 fn put_fault(s: State, team: Team, instrument: u8, class: u8) -> usize
     ensures { λ r. ⌜ r ≡ putFault s team instrument class ⌝ }
 {
@@ -52,6 +56,7 @@ fn put_fault(s: State, team: Team, instrument: u8, class: u8) -> usize
     if named(table, i) { 6 } else { 0 }
 }
 
+// SPAN: in a LOOPS team, an instrument below m, two different joints below 64, named once.
 fn span_fault(s: State, team: Team, instrument: u8, a: u8, b: u8) -> usize
     ensures { λ r. ⌜ r ≡ spanFault s team instrument a b ⌝ }
 {
@@ -75,6 +80,7 @@ fn span_fault(s: State, team: Team, instrument: u8, a: u8, b: u8) -> usize
     if named(table, i) { 6 } else { 0 }
 }
 
+// END: after a team.
 fn end_fault(s: State) -> usize
     ensures { λ r. ⌜ r ≡ endFault s ⌝ }
 {

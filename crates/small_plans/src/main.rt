@@ -76,6 +76,7 @@ fn run(name: &[u8], f: Family, seed: u64, before: Counts) -> Counts {
     counts::plus(before, c)
 }
 
+// Four families of plans, and the counts of all together.
 fn main() {
     let a = run(b"CAPS teams", caps(), 20201, counts::none());
     let b = run(b"LOOPS teams", loops(), 20202, a);
