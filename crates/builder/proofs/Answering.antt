@@ -1,25 +1,20 @@
 -- The answers of `build`.
 use Prim.Native.Nat.{ℕ, _≤_, _<_}
-use mathlib.Core.Path.{_≡_, refl, sym, ap, _∙_, subst}
-use mathlib.Core.Bool.{not}
+use mathlib.Core.Path.{_≡_, refl, sym, ap, _∙_}
 use mathlib.Core.Logic.{_≢_}
 use mathlib.Core.List.{List}
-use lib.Dec.{eqb, ltb}
 use lib.ListN.{length, take}
 use borrow.Author.Tests.{eq-eqb, ne-eqb, lt-ltb, le-ltb}
 use Rattle.plan.specs.declared.Reading.{Reading}
 use Rattle.plan.specs.Read.{readPlan}
 use Rattle.plan.specs.Valid.{Valid}
-use Rattle.engine.specs.declared.Seats.{Seats}
 use Rattle.engine.specs.declared.divide.Division.{Division}
 use Rattle.engine.specs.Fill.{Seated}
 use Rattle.engine.specs.Share.{Counted}
 use Rattle.engine.specs.Divide.{Divided}
 use Rattle.sheet.specs.Layout.{lengthOf}
-use Rattle.checker.specs.declared.Verdict.{Verdict}
 use Rattle.checker.specs.Check.{verdictOf}
 use Rattle.checker.proofs.Acceptance.{accepts}
-use Rattle.builder.specs.declared.Built.{Built}
 use Rattle.builder.specs.declared.Built.the-variants.{Refused, Wrote}
 use Rattle.builder.specs.Rows.{Written}
 use Rattle.builder.specs.Build.{answerBy, buildAnswer, Answered, sheet}

@@ -1,14 +1,14 @@
 -- A set as eight bytes: the bytes give the set back, and none has a bit at or above m.
 use Prim.Native.Nat.{ℕ, zero, suc, _+_, _-_, _*_, _/_, _%_, _^_, _≤_, _<_}
-use mathlib.Core.Path.{_≡_, refl, sym, ap, ap₂, _∙_, subst, subst⁻¹}
-use mathlib.Core.Bool.{Bool, false}
+use mathlib.Core.Path.{_≡_, refl, sym, ap, _∙_, subst}
+use mathlib.Core.Bool.{false}
 use mathlib.Core.List.{List}
 use native.Mathlib.Omega.{arith}
 use native.Mathlib.Nat.{pow-suc, div-one, mod-lt, mod-one, div-eq-of-lt, lt-of-lt-of-le, lt-of-le-of-lt, mod-le, mod-eq-of-lt}
 use native.Mathlib.Decide.{decLe}
-use lib.Dec.{T, eqb, not-T}
+use lib.Dec.{T, not-T}
 use lib.ListN.{getD}
-use lib.Pow.{pow-pos, pow-mono, pow-lt, pow-add, shr-lt, shr-shr, split, mod-pow-add}
+use lib.Pow.{pow-pos, pow-mono, pow-add, shr-lt, shr-shr, split, mod-pow-add}
 use borrow.Author.Tests.{eqb-false}
 use Rattle.matroid.specs.Taut.{T→false}
 use Rattle.sets.specs.Bits.{bit}

@@ -1,16 +1,16 @@
 -- The rows of a sheet, one after another.
-use Prim.Native.Nat.{ℕ, zero, suc, _+_, _-_, _*_, _≤_, _<_}
-use mathlib.Core.Path.{_≡_, refl, sym, ap, _∙_, subst, subst⁻¹}
-use mathlib.Core.Logic.{_⊎_, inl, inr}
+use Prim.Native.Nat.{ℕ, _+_, _-_, _*_, _≤_, _<_}
+use mathlib.Core.Path.{_≡_, refl, ap, _∙_, subst, subst⁻¹}
+use mathlib.Core.Logic.{inl, inr}
 use mathlib.Core.List.{List}
 use native.Mathlib.Omega.{arith}
 use native.Mathlib.Nat.{mul-le-mul-right}
 use native.Mathlib.Decide.{ℕ-discrete}
-use lib.ListN.{length, getD}
+use lib.ListN.{getD}
 use Rattle.engine.specs.declared.divide.Division.{Division}
 use Rattle.engine.specs.declared.share.Shared.{Shared}
 use Rattle.engine.specs.Divide.{noShare}
-use Rattle.sheet.specs.Layout.{lengthOf, boundStart, pageLength, shareStart, share-first, share-next, end-last}
+use Rattle.sheet.specs.Layout.{pageLength, shareStart, share-first, share-next, end-last}
 use Rattle.builder.specs.Rows.{Row, three, setBytes, rowBytes, join, pageBytes, PagesRow, Written}
 use Rattle.builder.proofs.Rowing.{row-join}
 

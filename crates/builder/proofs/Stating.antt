@@ -1,43 +1,35 @@
 -- What is written of a division states the facts that Check asks for.
-use Prim.Native.Nat.{ℕ, zero, suc, _+_, _-_, _*_, _/_, _%_, _^_, _≤_, _<_}
+use Prim.Native.Nat.{ℕ, _+_, _-_, _*_, _/_, _%_, _^_, _≤_, _<_}
 use mathlib.Core.Path.{_≡_, refl, sym, ap, _∙_, subst, subst⁻¹}
-use mathlib.Core.Bool.{Bool, true, false, not, cond}
-use mathlib.Core.Logic.{_⊎_, inl, inr, _≢_}
+use mathlib.Core.Bool.{true}
+use mathlib.Core.Logic.{inl, inr}
 use mathlib.Core.List.{List}
 use native.Mathlib.Omega.{arith}
-use native.Mathlib.Decide.{decLt}
 use lib.Dec.{T, eqb, ltb}
-use lib.ListN.{length, getD, take, drop, length-drop, List·getD-eq-default}
+use lib.ListN.{length, getD, take, drop, length-drop}
 use lib.Seq.{length-take-le, getD-take, getD-drop, ext-getD}
-use borrow.Author.Tests.{eq-eqb, ne-eqb, lt-ltb, le-ltb}
-use Rattle.matroid.specs.Set.{Set, complement, size, Within, size-same}
-use Rattle.matroid.specs.Sum.{sum}
-use Rattle.matroid.specs.Matroid.{Matroid, worth, worth-same}
+use borrow.Author.Tests.{lt-ltb, le-ltb}
+use Rattle.matroid.specs.Set.{size, size-same}
+use Rattle.matroid.specs.Matroid.{worth, worth-same}
 use Rattle.matroid.specs.Division.{bundle, held}
-use Rattle.sets.specs.Bits.{bit}
 use Rattle.plan.specs.declared.Reading.{Reading}
-use Rattle.plan.specs.Read.{readPlan}
 use Rattle.plan.specs.Valid.{Valid}
 use Rattle.plan.proofs.Lists.{getD-any}
 use Rattle.kinds.specs.Teams.{seats}
-use Rattle.engine.specs.declared.Seats.{Seats}
 use Rattle.engine.specs.declared.divide.Division.{Division}
-use Rattle.engine.specs.Seats.{seatOf, holder, Held}
-use Rattle.engine.specs.Fill.{Seated, given}
-use Rattle.engine.specs.Share.{Counted, ShareOf}
+use Rattle.engine.specs.Seats.{holder, Held}
+use Rattle.engine.specs.Fill.{given}
+use Rattle.engine.specs.Share.{Counted}
 use Rattle.engine.specs.Divide.{noShare, Divided}
 use Rattle.engine.proofs.Words.{indep-alike}
 use Rattle.engine.proofs.Sharing.{given-count}
-use Rattle.sheet.specs.Layout.{lengthOf, giveStart, boundStart, pageLength, shareStart, partStart, share-first, end-last}
+use Rattle.sheet.specs.Layout.{lengthOf, boundStart, pageLength, shareStart, partStart, share-first, end-last}
 use Rattle.sheet.specs.Fields.{totalAt, holderAt, boundAt, shareAt, setAt, partAt}
 use Rattle.sheet.specs.Form.{holder as holderTest}
-use Rattle.sheet.specs.Formed.{Formed, SetFormed}
+use Rattle.sheet.specs.Formed.{Formed}
 use Rattle.sheet.proofs.Commands.{holder-team, holder-pool}
-use Rattle.checker.specs.declared.Verdict.the-variants.{Accepted}
-use Rattle.checker.specs.Check.{checkSheet}
 use Rattle.checker.specs.Stated.{Stated}
-use Rattle.checker.proofs.Acceptance.{accepts}
-use Rattle.builder.specs.Rows.{three, setBytes, rowBytes, join, pageBytes, Written}
+use Rattle.builder.specs.Rows.{three, setBytes, rowBytes, pageBytes, Written}
 use Rattle.builder.proofs.Digits.{low-lt, set-formed, set-back}
 use Rattle.builder.proofs.Pages.{share-mono, share-le}
 

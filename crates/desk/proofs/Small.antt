@@ -8,7 +8,7 @@ use native.Mathlib.Nat.{mul-le-mul-left, lt-of-lt-of-le}
 use native.Mathlib.Decide.{ℕ-discrete}
 use lib.Dec.{eqb, leb, ltb}
 use lib.ListN.{length, getD, replicate}
-use borrow.Author.Tests.{eq-eqb, ne-eqb, ltb-true, eqb-true, not-false}
+use borrow.Author.Tests.{ltb-true, eqb-true}
 use Rattle.matroid.specs.Search.{All}
 use Rattle.plan.specs.declared.Command.{Command}
 use Rattle.plan.specs.declared.Command.the-variants.{Missing, Unknown, Short, Start, Caps, Loops, Class, Put, Span, End}
@@ -18,7 +18,7 @@ use Rattle.plan.specs.declared.Team.{Team}
 use Rattle.plan.specs.Command.{commandAt, lengthOf}
 use Rattle.plan.specs.Fault.{Rule as PlanRule, rule as planRule, firstBroken, named, fault, isEnd}
 use Rattle.plan.specs.Carry.{blankTeam, start, openTeam, changedTeam, changedState}
-use Rattle.plan.specs.Read.{refused, accepted, finished, changedTeams, readFrom, readPlan}
+use Rattle.plan.specs.Read.{refused, accepted, changedTeams, readFrom, readPlan}
 use Rattle.plan.proofs.Steps.{number, step-refused, step-end, step-next, plan-start, plan-none}
 use Rattle.plan.proofs.Bounds.{bounded}
 use Rattle.sheet.specs.Layout.{lengthOf as sheetLength}
@@ -29,7 +29,7 @@ use Rattle.builder.specs.Build.{answerBy, buildAnswer, numberOf, placeOf}
 use Rattle.checker.specs.declared.Verdict.{Verdict}
 use Rattle.checker.specs.declared.Verdict.the-variants as verdict
 use Rattle.checker.specs.Verdict.{numberOf as verdictOf-number, placeOf as verdictOf-place, firstBroken as firstRule, Rule as CheckRule, rule}
-use Rattle.checker.specs.Check.{sheetRules, divisionRules, verdictOf, checkSheet}
+use Rattle.checker.specs.Check.{divisionRules, verdictOf, checkSheet}
 
 -- ---- Read's numbers
 

@@ -1,23 +1,22 @@
 -- Carrying out the moves that lead back from the end of a search is carrying out a chain with no short cut.
 use Prim.Native.Nat.{ℕ, zero, suc, _+_, _≤_, _<_}
 use mathlib.Core.Path.{_≡_, refl, sym, ap, _∙_, subst, subst⁻¹}
-use mathlib.Core.Bool.{Bool, not}
-use mathlib.Core.Logic.{_⊎_, inl, inr, _≢_}
+use mathlib.Core.Logic.{inl, inr, _≢_}
 use mathlib.Core.List.{List, [], _∷_}
 use native.Mathlib.Omega.{arith}
-use native.Mathlib.Decide.{ℕ-discrete, decLt}
+use native.Mathlib.Decide.{ℕ-discrete}
 use lib.Dec.{T}
 use lib.ListN.{length, getD}
 use Rattle.matroid.specs.Search.{All, Any}
-use Rattle.matroid.specs.Carry.{Distinct, carry, last}
+use Rattle.matroid.specs.Carry.{Distinct, carry}
 use Rattle.matroid.specs.Chain.{Sound}
-use Rattle.matroid.specs.Breadth.{Labels, Traced}
+use Rattle.matroid.specs.Breadth.{Labels}
 use Rattle.matroid.specs.Walk.{Walked, walked-end, walked-back, walked-distinct, walked-below, walked-short, walked-source, walked-team, walked-reached, parent-level, to-team, carried, carried-sound, in-list}
 use Rattle.sets.specs.Bits.{bit}
 use Rattle.holding.specs.declared.Holding.{Holding}
 use Rattle.holding.specs.declared.Moves.{Moves}
 use Rattle.holding.specs.Give.{holderOf}
-use Rattle.holding.specs.Chain.{itemAt, teamOf, chained}
+use Rattle.holding.specs.Chain.{itemAt, chained}
 use Rattle.holding.proofs.Applies.{Fit, chain-m, chain-n, chain-long, chain-moved, chain-kept}
 use Rattle.engine.specs.declared.Seats.{Seats}
 use Rattle.engine.specs.declared.search.Trace.{Trace}

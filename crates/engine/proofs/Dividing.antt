@@ -1,13 +1,12 @@
 -- The loops of `divide`, and what they come to.
-use Prim.Native.Nat.{ℕ, _+_, _*_, _≤_, _<_}
-use mathlib.Core.Path.{_≡_, refl, sym, ap, _∙_, subst, subst⁻¹}
+use Prim.Native.Nat.{ℕ, _+_, _*_, _<_}
+use mathlib.Core.Path.{_≡_, refl, sym, ap, _∙_}
 use mathlib.Core.List.{List}
 use native.Mathlib.Omega.{arith}
 use native.Mathlib.Decide.{ℕ-discrete}
 use lib.ListN.{length, getD, set, replicate, length-set}
 use lib.Seq.{getD-set-same, getD-set-other}
 use borrow.Author.Tests.{lt-ltb}
-use Rattle.matroid.specs.Set.{complement}
 use Rattle.matroid.specs.Share.{share-allowed}
 use Rattle.plan.specs.declared.Team.{Team}
 use Rattle.plan.specs.Carry.{blankTeam}
@@ -15,10 +14,9 @@ use Rattle.plan.proofs.Lists.{getD-any}
 use Rattle.kinds.specs.Teams.{teamAt}
 use Rattle.holding.specs.declared.Holding.{Holding}
 use Rattle.engine.specs.declared.Seats.{Seats}
-use Rattle.engine.specs.declared.divide.Division.{Division}
 use Rattle.engine.specs.declared.share.Shared.{Shared}
 use Rattle.engine.specs.Seats.{seatOf}
-use Rattle.engine.specs.Fill.{Seated, given, Full}
+use Rattle.engine.specs.Fill.{Seated, Full}
 use Rattle.engine.specs.Level.{Levellable, Levelled}
 use Rattle.engine.specs.Share.{ShareOf}
 use Rattle.engine.specs.Divide.{noShare, AllShares, Targets, Divided}

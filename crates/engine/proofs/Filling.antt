@@ -1,22 +1,21 @@
 -- The loop of `fill`.
-use Prim.Native.Nat.{ℕ, _+_, _-_, _≤_, _<_}
-use mathlib.Core.Path.{_≡_, refl, sym, ap, _∙_, subst, subst⁻¹}
-use mathlib.Core.Bool.{Bool, true, false, _&&_, not}
-use mathlib.Core.Logic.{_⊎_, inl, inr}
+use Prim.Native.Nat.{ℕ, _-_, _≤_, _<_}
+use mathlib.Core.Path.{_≡_, refl, ap, _∙_, subst, subst⁻¹}
+use mathlib.Core.Bool.{Bool, false, _&&_, not}
+use mathlib.Core.Logic.{inl, inr}
 use mathlib.Core.List.{List}
 use native.Mathlib.Omega.{arith}
 use native.Mathlib.Decide.{decLt}
 use lib.Dec.{T, eqb, ltb, ltb→lt, lt→ltb, T-not, not-T}
-use lib.ListN.{length, getD, replicate, getD-replicate, List·getD-eq-default, length-replicate}
+use lib.ListN.{getD, replicate, getD-replicate, List·getD-eq-default}
 use borrow.Author.Tests.{lt-ltb, le-ltb, ltb-false, ne-eqb}
 use Rattle.matroid.specs.Taut.{decide-T, T→false, both, and-left, and-right}
-use Rattle.matroid.specs.Set.{Set, none, _∖_, complement, under, size, Within, size-same, size-twice}
-use Rattle.matroid.specs.Sum.{sum, sum-same}
-use Rattle.matroid.specs.Matroid.{Matroid, worth, worth-same}
+use Rattle.matroid.specs.Set.{Set, none, _∖_, complement, under, size-same}
+use Rattle.matroid.specs.Sum.{sum-same}
+use Rattle.matroid.specs.Matroid.{worth, worth-same}
 use Rattle.matroid.specs.Division.{bundle}
 use Rattle.matroid.specs.Closure.{fill-certificate}
 use Rattle.sets.specs.Bits.{bit}
-use Rattle.plan.specs.declared.Team.{Team}
 use Rattle.holding.specs.declared.Holding.{Holding}
 use Rattle.holding.specs.Give.{holderOf, allInPool}
 use Rattle.holding.specs.Words.{Bundles, Pool}

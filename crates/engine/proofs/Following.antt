@@ -7,7 +7,6 @@ use native.Mathlib.Omega.{arith}
 use native.Mathlib.Decide.{ℕ-discrete}
 use lib.ListN.{length, getD, set, length-set}
 use lib.Seq.{getD-set-same, getD-set-other}
-use Rattle.holding.specs.declared.Moves.{Moves}
 use Rattle.engine.specs.declared.search.Trace.{Trace}
 use Rattle.engine.specs.Chains.{Followed}
 

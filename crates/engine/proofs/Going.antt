@@ -1,7 +1,7 @@
 -- The loops of `search`.
 use Prim.Native.Nat.{ℕ, suc, _+_, _-_, _≤_, _<_}
 use mathlib.Core.Path.{_≡_, refl, sym, ap, _∙_, subst, subst⁻¹}
-use mathlib.Core.Bool.{Bool, true, false, _&&_, _||_, not, true≢false, false≢true}
+use mathlib.Core.Bool.{Bool, true, false, not, true≢false, false≢true}
 use mathlib.Core.Logic.{_⊎_, inl, inr, _≢_, _↔_}
 use mathlib.Core.List.{List}
 use native.Mathlib.Omega.{arith}
@@ -11,13 +11,12 @@ use borrow.Author.Tests.{lt-ltb, le-ltb}
 use lib.ListN.{length, getD, set, length-set}
 use lib.Seq.{getD-set-same, getD-set-other}
 use Rattle.matroid.specs.Taut.{decide-T, both as both-of, and-left, and-right}
-use Rattle.matroid.specs.Set.{Set, _∩_, _∖_, with, without, size, with-cases, with-new, with-old, with-out, size-with, size-le, size-same, differ}
+use Rattle.matroid.specs.Set.{Set, _∩_, with, without, size, with-cases, with-new, with-old, size-with, size-le, size-same, differ}
 use Rattle.matroid.specs.Division.{bundle, move, move-here, move-away}
 use Rattle.matroid.specs.Matroid.{Matroid}
 use Rattle.matroid.specs.Exchange.{Swaps}
 use Rattle.matroid.specs.Chain.{CanSwap, Edge}
-use Rattle.matroid.specs.Closure.{Closed, Gains}
-use Rattle.matroid.specs.Breadth.{Labels, Rooted, Wave, Traced, wave-traced, wave-closed, wave-gains, wave-next, wave-scanned, wave-mark, rooted-wave}
+use Rattle.matroid.specs.Breadth.{Wave, wave-traced, wave-closed, wave-gains, wave-next, wave-scanned, wave-mark, rooted-wave}
 use Rattle.sets.specs.Bits.{bit}
 use Rattle.sets.specs.Below.{none-there}
 use Rattle.sets.specs.Lowest.{Lowest}

@@ -1,7 +1,7 @@
 -- The loops of the greedy start.
 use Prim.Native.Nat.{ℕ, _+_, _≤_, _<_}
 use mathlib.Core.Path.{_≡_, refl, sym, ap, _∙_, subst, subst⁻¹}
-use mathlib.Core.Bool.{Bool, true, false, _&&_, _||_, not, and-true, and-false}
+use mathlib.Core.Bool.{Bool, true, false, _&&_, not, and-true, and-false}
 use mathlib.Core.Logic.{_⊎_, inl, inr, _≢_}
 use mathlib.Core.List.{List}
 use native.Mathlib.Omega.{arith}
@@ -11,7 +11,6 @@ use lib.ListN.{length, getD, set, length-set}
 use lib.Seq.{getD-set-same, getD-set-other}
 use borrow.Author.Tests.{lt-ltb, ne-eqb, ltb-false}
 use Rattle.matroid.specs.Taut.{decide-T, T→true, T→false, both, and-left, and-right}
-use Rattle.matroid.specs.Set.{with}
 use Rattle.matroid.specs.Matroid.{Matroid}
 use Rattle.matroid.specs.Chain.{Sound}
 use Rattle.matroid.specs.Division.{bundle}

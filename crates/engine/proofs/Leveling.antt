@@ -1,31 +1,29 @@
 -- The loop of `level`.
-use Prim.Native.Nat.{ℕ, zero, suc, _+_, _-_, _*_, _≤_, _<_}
-use mathlib.Core.Path.{_≡_, refl, sym, ap, _∙_, subst, subst⁻¹, fun-ext}
+use Prim.Native.Nat.{ℕ, _+_, _-_, _*_, _≤_, _<_}
+use mathlib.Core.Path.{_≡_, refl, ap, _∙_, subst, subst⁻¹, fun-ext}
 use mathlib.Core.Bool.{Bool, true, false, _&&_, _||_, not}
-use mathlib.Core.Logic.{_⊎_, inl, inr, _↔_, _≢_}
+use mathlib.Core.Logic.{inl, inr}
 use mathlib.Core.List.{List}
 use native.Mathlib.Omega.{arith}
 use native.Mathlib.Decide.{decLt, ℕ-discrete}
-use lib.Dec.{T, eqb, eqb→eq, ltb, ltb→lt, lt→ltb, T-not, not-T}
-use lib.ListN.{length, getD}
-use borrow.Author.Tests.{lt-ltb}
+use lib.Dec.{T, eqb, eqb→eq, ltb, ltb→lt, lt→ltb, T-not}
+use lib.ListN.{getD}
 use Rattle.matroid.specs.Taut.{both, and-left, and-right, or-cases, follows₂}
-use Rattle.matroid.specs.Set.{Set, _∪_, _∩_, _∖_, complement, only, under, one, one-eq, one-ne, size, eq→eqb}
+use Rattle.matroid.specs.Set.{Set, _∪_, _∖_, complement, only, one-eq, one-ne, size, eq→eqb}
 use Rattle.matroid.specs.Sum.{sum, sum-lt}
-use Rattle.matroid.specs.Matroid.{Matroid, worth}
+use Rattle.matroid.specs.Matroid.{worth}
 use Rattle.matroid.specs.Division.{bundle}
-use Rattle.matroid.specs.Closure.{Closed, Gains, slack-held, slack-gain, slack-edge, levelling}
+use Rattle.matroid.specs.Closure.{slack-held, slack-gain, slack-edge, levelling}
 use Rattle.sets.specs.Bits.{bit}
 use Rattle.sets.specs.Below.{none-there, size-under}
 use Rattle.holding.specs.declared.Holding.{Holding}
-use Rattle.holding.specs.Words.{Bundles}
 use Rattle.engine.specs.declared.Seats.{Seats}
 use Rattle.engine.specs.declared.search.Reached.{Reached}
 use Rattle.engine.specs.Seats.{seatOf, holder, Ready, Held}
 use Rattle.engine.specs.Search.{Outcome}
 use Rattle.engine.specs.Chains.{Advanced}
-use Rattle.engine.specs.Fill.{given, Full}
-use Rattle.engine.specs.Level.{wordSize, FirstShort, Above, Levellable, Levelled}
+use Rattle.engine.specs.Fill.{given}
+use Rattle.engine.specs.Level.{wordSize, FirstShort, Above, Levelled}
 use Rattle.engine.proofs.Sizes.{size-after, given-same}
 
 -- the size of a word, as the code has it

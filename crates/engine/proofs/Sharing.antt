@@ -1,23 +1,20 @@
 -- Shares: n seats of one team, filled and levelled.
-use Prim.Native.Nat.{ℕ, zero, suc, _+_, _*_, _/_, _%_, _≤_, _<_}
-use mathlib.Core.Path.{_≡_, refl, sym, ap, _∙_, subst, subst⁻¹, fun-ext}
+use Prim.Native.Nat.{ℕ, zero, _+_, _*_, _/_, _≤_, _<_}
+use mathlib.Core.Path.{_≡_, refl, ap, _∙_, subst, fun-ext}
 use mathlib.Core.Bool.{Bool, true, false, _&&_, not}
-use mathlib.Core.Logic.{inl, inr}
 use mathlib.Core.List.{List}
 use native.Mathlib.Omega.{arith}
 use native.Mathlib.Nat.{mul-le-mul-left, div-add-mod', mod-lt}
 use native.Mathlib.Decide.{decLt, decLe, ℕ-discrete}
-use lib.Dec.{T, eqb, eqb→eq, ltb, ltb→lt, lt→ltb, T-not, not-T}
+use lib.Dec.{eqb→eq, ltb}
 use lib.ListN.{length, getD, set, replicate, length-set, getD-replicate, length-replicate, List·getD-eq-default}
 use lib.Seq.{getD-set-same, getD-set-other}
-use borrow.Author.Tests.{lt-ltb, le-ltb}
-use Rattle.matroid.specs.Taut.{both, and-left, and-right}
-use Rattle.matroid.specs.Set.{Set, _∩_, _∖_, complement, under, size, eq→eqb, Within, size-same, size-twice, within-refl, inter-most, inter-left, inter-right}
+use borrow.Author.Tests.{lt-ltb}
+use Rattle.matroid.specs.Set.{Set, _∩_, _∖_, complement, under, size, eq→eqb, Within, size-same, size-twice, within-refl, inter-most, inter-left}
 use Rattle.matroid.specs.Sum.{sum, sum-same, sum-const}
 use Rattle.matroid.specs.Matroid.{Matroid, worth, worth-indep, worth-mono}
-use Rattle.matroid.specs.Division.{bundle, held, total, weak-duality, sum-bundles}
-use Rattle.matroid.specs.Cuts.{Cuts}
-use Rattle.matroid.specs.Share.{share, Cut, share-most, share-bound}
+use Rattle.matroid.specs.Division.{bundle, held, weak-duality, sum-bundles}
+use Rattle.matroid.specs.Share.{share, share-most, share-bound}
 use Rattle.sets.specs.Bits.{bit}
 use Rattle.sets.specs.Below.{size-under}
 use Rattle.plan.specs.declared.Team.{Team}

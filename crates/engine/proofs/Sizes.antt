@@ -1,19 +1,17 @@
 -- How a chain changes the sizes of the bundles.
 use Prim.Native.Nat.{ℕ, zero, suc, _+_, _-_, _≤_, _<_}
-use mathlib.Core.Path.{_≡_, refl, sym, ap, _∙_, subst}
-use mathlib.Core.Bool.{true, _&&_}
-use mathlib.Core.Logic.{_≢_}
-use mathlib.Core.List.{List, _∷_}
+use mathlib.Core.Path.{_≡_, refl, sym, ap, _∙_}
+use mathlib.Core.List.{List}
 use native.Mathlib.Omega.{arith}
 use native.Mathlib.Decide.{ℕ-discrete}
-use lib.Dec.{T, eqb}
-use Rattle.matroid.specs.Set.{Set, _∩_, _∖_, complement, one, one-eq, one-ne, size, size-le, size-within, within-refl, inter-left, none, size-none}
-use Rattle.matroid.specs.Sum.{sum, sum-add, sum-same, sum-le, sum-lt}
-use Rattle.matroid.specs.Carry.{carry, last, carry-size}
+use lib.Dec.{eqb}
+use Rattle.matroid.specs.Set.{complement, one, one-eq, one-ne, size, size-le, none, size-none}
+use Rattle.matroid.specs.Sum.{sum, sum-add, sum-same}
+use Rattle.matroid.specs.Carry.{carry-size}
 use Rattle.matroid.specs.Division.{bundle, sum-bundles-le, sum-bundles-split}
 use Rattle.holding.specs.declared.Holding.{Holding}
 use Rattle.engine.specs.declared.Seats.{Seats}
-use Rattle.engine.specs.Seats.{holder, Held}
+use Rattle.engine.specs.Seats.{holder}
 use Rattle.engine.specs.Chains.{Advanced}
 use Rattle.engine.specs.Fill.{given}
 

@@ -1,15 +1,15 @@
 -- Bundles as words: they agree with the theory's bundles below m.
-use Prim.Native.Nat.{ℕ, suc, _+_, _≤_, _<_}
+use Prim.Native.Nat.{ℕ, _+_, _≤_, _<_}
 use mathlib.Core.Path.{_≡_, refl, sym, ap, _∙_, subst, subst⁻¹}
-use mathlib.Core.Bool.{Bool, true, false, _&&_, _||_, not}
+use mathlib.Core.Bool.{Bool, true, _&&_, _||_, not}
 use mathlib.Core.Logic.{_↔_}
 use mathlib.Core.List.{List, []}
 use native.Mathlib.Omega.{arith}
-use lib.Dec.{T, eqb, ltb, lt→ltb, T-not}
+use lib.Dec.{T, eqb, lt→ltb, T-not}
 use lib.ListN.{length, getD}
 use borrow.Author.Tests.{lt-ltb}
 use Rattle.matroid.specs.Taut.{both, and-left, and-right, follows₂}
-use Rattle.matroid.specs.Set.{Set, with, without, under, Within, with-mono, swap-mono}
+use Rattle.matroid.specs.Set.{Set, without, under, Within, with-mono, swap-mono}
 use Rattle.matroid.specs.Matroid.{Matroid}
 use Rattle.matroid.specs.Exchange.{Fits, Swaps}
 use Rattle.matroid.specs.Division.{bundle}
@@ -20,7 +20,7 @@ use Rattle.sets.specs.Below.{none-there}
 use Rattle.plan.specs.declared.Team.{Team}
 use Rattle.plan.proofs.Lists.{getD-any}
 use Rattle.plan.specs.Carry.{blankTeam}
-use Rattle.kinds.specs.Teams.{matroidOf, teamAt, Gains}
+use Rattle.kinds.specs.Teams.{matroidOf, Gains}
 use Rattle.engine.specs.declared.Seats.{Seats}
 use Rattle.engine.specs.Seats.{seatOf, holder, Ready}
 use Rattle.engine.specs.Search.{Assigned, Exchanges}

@@ -1,11 +1,11 @@
 -- What the functions of the search promise.
-use Prim.Native.Nat.{ℕ, _≤_, _<_}
+use Prim.Native.Nat.{ℕ, _<_}
 use mathlib.Core.Path.{_≡_}
 use mathlib.Core.Bool.{true, false, not}
 use mathlib.Core.Logic.{_↔_}
 use mathlib.Core.List.{List}
 use lib.Dec.{T}
-use lib.ListN.{length, getD, set}
+use lib.ListN.{getD, set}
 use Rattle.matroid.specs.Set.{_∖_, with}
 use Rattle.matroid.specs.Exchange.{Swaps}
 use Rattle.matroid.specs.Closure.{Closed, Gains}

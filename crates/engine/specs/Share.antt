@@ -1,10 +1,9 @@
 -- What computing a share comes to.
 use Prim.Native.Nat.{ℕ, _+_, _*_, _≤_, _<_}
 use mathlib.Core.Path.{_≡_}
-use mathlib.Core.Bool.{not}
 use mathlib.Core.List.{List}
 use lib.Dec.{T, ltb}
-use lib.ListN.{length, getD}
+use lib.ListN.{getD}
 use Rattle.matroid.specs.Set.{complement, size}
 use Rattle.matroid.specs.Matroid.{worth}
 use Rattle.matroid.specs.Division.{bundle}

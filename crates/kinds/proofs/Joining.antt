@@ -1,17 +1,16 @@
 -- What may join an independent set, as words.
 use Prim.Native.Nat.{ℕ, suc, _+_, _≤_, _<_, min}
 use mathlib.Core.Path.{_≡_, sym, ap, _∙_, subst, subst⁻¹}
-use mathlib.Core.Bool.{Bool, true, false, _&&_, not}
+use mathlib.Core.Bool.{true, false, not}
 use mathlib.Core.Logic.{_↔_, inl, inr}
 use mathlib.Core.List.{List}
 use native.Mathlib.Omega.{arith}
 use native.Mathlib.Decide.{ℕ-discrete}
-use lib.Dec.{T, eqb, eqb→eq, ltb, ltb→lt, lt→ltb}
+use lib.Dec.{T}
 use lib.ListN.{getD}
 use Rattle.matroid.specs.Taut.{both, and-left, and-right}
-use Rattle.matroid.specs.Set.{Set, _∩_, _∖_, with, size, eq→eqb, with-cases, with-new, with-old}
+use Rattle.matroid.specs.Set.{Set, _∖_, with, size, with-cases, with-new, with-old}
 use Rattle.matroid.specs.Sum.{sum-same}
-use Rattle.matroid.specs.Division.{bundle}
 use Rattle.matroid.specs.Matroid.{Matroid, worth}
 use Rattle.sets.specs.Bits.{bit}
 use Rattle.kinds.specs.Net.{Net, net}

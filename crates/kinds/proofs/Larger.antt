@@ -1,25 +1,24 @@
 -- The loops of `grown`: an independent set takes in members of another, least first.
 use Prim.Native.Nat.{ℕ, _+_, _-_, _≤_, _<_}
-use mathlib.Core.Path.{_≡_, ap, _∙_, subst, subst⁻¹, fun-ext}
-use mathlib.Core.Bool.{Bool, true, false, _&&_, _||_, not}
-use mathlib.Core.Logic.{_⊎_, inl, inr, _↔_}
+use mathlib.Core.Path.{_≡_, ap, subst, subst⁻¹, fun-ext}
+use mathlib.Core.Bool.{Bool, true, _&&_, _||_, not}
+use mathlib.Core.Logic.{_⊎_, inl, inr}
 use mathlib.Core.List.{List}
 use native.Mathlib.Omega.{arith}
-use lib.Dec.{T, eqb, eqb→eq, ltb→lt, not-T}
+use lib.Dec.{T, eqb, eqb→eq, ltb→lt}
 use lib.ListN.{getD, set}
 use Rattle.matroid.specs.Taut.{both, and-left, and-right, or-cases, follows₂}
-use Rattle.matroid.specs.Set.{Set, under, with, without, size, size-with, eqb→ne}
+use Rattle.matroid.specs.Set.{Set, under, with, without, size, size-with}
 use Rattle.matroid.specs.Matroid.{Matroid}
 use Rattle.sets.specs.Bits.{bit}
-use Rattle.sets.specs.Lowest.{Lowest}
-use Rattle.kinds.specs.Net.{Net, net, spans}
+use Rattle.kinds.specs.Net.{Net, net}
 use Rattle.kinds.specs.Groups.{Bridges}
 use Rattle.kinds.specs.Caps.{classes, capsMatroid, caps-with, caps-indep}
 use Rattle.kinds.specs.Loops.{loopsMatroid, loops-with, loops-indep}
-use Rattle.kinds.specs.Labels.{Labelled, Relabelled, apartTest}
+use Rattle.kinds.specs.Labels.{Relabelled, apartTest}
 use Rattle.kinds.specs.Counts.{classIn, Counts}
 use Rattle.kinds.specs.Teams.{Grown}
-use Rattle.kinds.proofs.Grouping.{Grouped, grouped-labelled, grouped-take, apart-bridges}
+use Rattle.kinds.proofs.Grouping.{Grouped, grouped-take, apart-bridges}
 use Rattle.kinds.proofs.Classes.{counts-join}
 
 -- a set is itself, with nothing added

@@ -1,6 +1,6 @@
 -- A set gone through by its least members.
 use Prim.Native.Nat.{ℕ, _+_, _≤_, _<_}
-use mathlib.Core.Path.{_≡_, ap, _∙_, subst, subst⁻¹, fun-ext}
+use mathlib.Core.Path.{_≡_, ap, subst, subst⁻¹, fun-ext}
 use mathlib.Core.Bool.{not}
 use mathlib.Core.Logic.{_↔_}
 use native.Mathlib.Omega.{arith}

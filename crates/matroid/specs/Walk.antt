@@ -1,6 +1,6 @@
 -- The chain that leads back from a target to a source, and what carrying it out comes to.
-use Prim.Native.Nat.{ℕ, zero, suc, _+_, _≤_, _<_}
-use mathlib.Core.Path.{_≡_, refl, sym, ap, _∙_, subst, subst⁻¹, fun-ext}
+use Prim.Native.Nat.{ℕ, suc, _+_, _≤_, _<_}
+use mathlib.Core.Path.{_≡_, refl, sym, ap, _∙_, subst, fun-ext}
 use mathlib.Core.Logic.{_⊎_, inl, inr, _≢_}
 use mathlib.Core.List.{List, [], _∷_}
 use native.Mathlib.Omega.{arith}
@@ -11,8 +11,8 @@ use Rattle.matroid.specs.Set.{Set, none, with, size, size-none, size-wit
 use Rattle.matroid.specs.Search.{All, Any, all-imp}
 use Rattle.matroid.specs.Matroid.{Matroid}
 use Rattle.matroid.specs.Carry.{Distinct, carry, Handed, last, carry-other, carry-handed}
-use Rattle.matroid.specs.Chain.{Sound, CanGain, Edge, Chain, carry-sound}
-use Rattle.matroid.specs.Levels.{Levels, Label, Rising, rising-labels, rising-distinct, rising-chain}
+use Rattle.matroid.specs.Chain.{Sound, CanGain, Chain, carry-sound}
+use Rattle.matroid.specs.Levels.{Label, Rising, rising-labels, rising-distinct, rising-chain}
 use Rattle.matroid.specs.Breadth.{Labels, Reason, root, step, Traced}
 
 -- ---- lists of different numbers

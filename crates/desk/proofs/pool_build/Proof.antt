@@ -1,7 +1,6 @@
-use mathlib.Core.Path.{_≡_, refl, sym, ap, _∙_, subst}
+use mathlib.Core.Path.{sym, ap, _∙_, subst}
 use native.Mathlib.Omega.{arith}
 use denote.Ref.{now}
-use Rattle.builder.specs.declared.Built.{Built}
 use Rattle.builder.specs.Build.{Answered}
 use Rattle.desk.specs.Desk.{builtNumber}
 use Rattle.desk.proofs.Small.{built-told}

@@ -1,10 +1,7 @@
-use Prim.Native.Nat.{ℕ, _≤_, _<_, _-_, _+_}
-use mathlib.Core.Path.{_≡_, refl, sym, ap, _∙_, subst}
+use Prim.Native.Nat.{_≤_, _-_}
+use mathlib.Core.Path.{_≡_}
 use native.Mathlib.Omega.{arith}
-use lib.ListN.{length, getD}
-use Rattle.engine.specs.Divide.{noShare}
-use Rattle.sheet.specs.Layout.{shareStart}
-use Rattle.builder.specs.Rows.{Row, pageBytes, PagesRow}
+use Rattle.builder.specs.Rows.{PagesRow}
 use Rattle.builder.proofs.Pages.{pages-none, pages-more, share-mono}
 use borrow.Author.Needs.{needs}
 use Rattle.builder.proofs.write.write_pages.Statement.{statement}

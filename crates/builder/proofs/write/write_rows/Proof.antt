@@ -1,7 +1,6 @@
-use Prim.Native.Nat.{ℕ, _≤_, _<_, _-_, _*_}
-use mathlib.Core.Path.{_≡_, refl}
+use Prim.Native.Nat.{_≤_, _-_, _*_}
+use mathlib.Core.Path.{_≡_}
 use native.Mathlib.Omega.{arith}
-use lib.ListN.{length}
 use Rattle.builder.specs.Rows.{Row, rowBytes}
 use Rattle.builder.proofs.Rowing.{row-none, rows-more}
 use borrow.Author.Needs.{needs}

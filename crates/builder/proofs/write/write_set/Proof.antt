@@ -1,7 +1,6 @@
-use Prim.Native.Nat.{ℕ, _≤_, _<_, _-_, _/_, _^_}
+use Prim.Native.Nat.{_≤_, _-_, _/_, _^_}
 use mathlib.Core.Path.{_≡_, refl}
 use native.Mathlib.Omega.{arith}
-use lib.ListN.{length}
 use Rattle.builder.specs.Rows.{Row, setBytes}
 use Rattle.builder.proofs.Rowing.{row-none, row-more, set-none, set-next, set-byte}
 use borrow.Author.Needs.{needs}

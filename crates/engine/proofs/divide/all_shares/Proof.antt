@@ -1,7 +1,6 @@
-use Prim.Native.Nat.{ℕ, _≤_, _<_, _-_}
+use Prim.Native.Nat.{_≤_, _-_}
 use mathlib.Core.Path.{_≡_, refl}
 use native.Mathlib.Omega.{arith}
-use Rattle.engine.specs.Fill.{Seated}
 use Rattle.engine.specs.Divide.{AllShares}
 use Rattle.engine.proofs.Words.{seating, filler}
 use Rattle.engine.proofs.Dividing.{shares-none, shares-more}

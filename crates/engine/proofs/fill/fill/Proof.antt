@@ -1,9 +1,8 @@
-use Prim.Native.Nat.{ℕ, _≤_, _<_, _-_}
-use mathlib.Core.Path.{_≡_, refl, sym, _∙_, subst⁻¹}
+use Prim.Native.Nat.{_<_, _-_}
+use mathlib.Core.Path.{subst⁻¹}
 use native.Mathlib.Omega.{arith}
 use lib.Dec.{T, lt→ltb}
 use borrow.Author.Tests.{not-true, not-false}
-use Rattle.holding.specs.declared.Holding.{Holding}
 use Rattle.engine.specs.Seats.{Held}
 use Rattle.engine.specs.Fill.{given}
 use Rattle.engine.specs.Chains.{Advanced}

@@ -1,12 +1,11 @@
 -- `search` meets its contract. The invariants: the search goes on, clear of targets (`Going`); of the fresh instruments those passed are reached (`Scanning`).
-use Prim.Native.Nat.{ℕ, _≤_, _<_, _-_}
+use Prim.Native.Nat.{_-_}
 use mathlib.Core.Path.{_≡_, refl, sym, _∙_}
 use mathlib.Core.Bool.{true≢false}
 use mathlib.Core.Logic.{⊎-elim}
 use native.Mathlib.Omega.{arith}
-use lib.ListN.{length, getD}
 use Rattle.engine.proofs.Words.{seating, filler}
-use Rattle.engine.proofs.Going.{ones, ones-le, ones-with, Going, going-start, roots-found, going-rest, all-scanned, Scanning, scan-start, scan-pool, scan-jump, scan-skip, scan-mark, scan-found, scan-end, scan-new, outcome-found, outcome-none}
+use Rattle.engine.proofs.Going.{ones, ones-le, ones-with, Going, going-start, roots-found, going-rest, Scanning, scan-start, scan-pool, scan-jump, scan-skip, scan-mark, scan-found, scan-end, scan-new, outcome-found, outcome-none}
 use borrow.Author.Needs.{needs}
 use Rattle.engine.proofs.search.search.Statement.{statement}
 use Rattle.engine.proofs.search.search.Tie as tie

@@ -1,6 +1,6 @@
 -- `next_command` meets its contract: a walk of its MIR, by hand, since a reader stands in a local. A reader is made at the file's start and set to the offset; what it hands out is taken apart again.
 -- All that the proof knows of `new` and `next` is that each meets its contract. What the slice owns is Copy: it is kept, and what each callee asks is made of it.
-use mathlib.Core.Path.{_≡_, refl, ap}
+use mathlib.Core.Path.{refl, ap}
 use Prim.Native.Nat.{ℕ, _<_, _^_}
 use mathlib.Core.List.{List, [], _∷_}
 use lib.ListN.{length}
