@@ -46,7 +46,8 @@ pub fn gains_of(team: Team, m: usize, set: u64) -> u64
     0
 }
 
-// An independent set with members of another, at most so many, as long as one may join.
+// An independent set made larger by members of another, in rising order and at most so many. It is a start for a search: how many join
+// is no part of the promise.
 pub fn grown(team: Team, m: usize, set: u64, from: u64, most: usize) -> u64
     requires { ⌜ m ≤ 64 ⌝ }
     ensures { λ r. ⌜ Grown (matroidOf m team) set from r ⌝ }
