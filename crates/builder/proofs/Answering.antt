@@ -9,7 +9,10 @@ use Rattle.plan.specs.declared.Reading.{Reading}
 use Rattle.plan.specs.Read.{readPlan}
 use Rattle.plan.specs.Valid.{Valid}
 use Rattle.engine.specs.declared.divide.Division.{Division}
-use Rattle.engine.specs.Fill.{Seated}
+use Rattle.kinds.specs.declared.Valuation.{Valuation}
+use Rattle.plan.specs.Teams.{valuationsOf}
+use Rattle.plan.proofs.Valuing.{valued-long}
+use Rattle.engine.specs.Fill.{ValidAgents}
 use Rattle.engine.specs.Share.{Counted}
 use Rattle.engine.specs.Divide.{Divided}
 use Rattle.sheet.specs.Layout.{lengthOf}
@@ -20,9 +23,9 @@ use Rattle.builder.specs.Rows.{Written}
 use Rattle.builder.specs.Build.{answerBy, buildAnswer, Answered, sheet}
 use Rattle.builder.proofs.Stating.{states, rest-same}
 
--- the seats of an accepted reading
-pub seated-reading : (r : Reading) → Valid r → Seated (record { m = r .m; n = r .n; teams = r .teams })
-seated-reading r v = record { small = v .small; some = v .some; few = v .few; teams-long = v .teams-long }
+-- the agents of an accepted reading
+pub valid-agents : (r : Reading) (row : List Valuation) → Valid r → row ≡ valuationsOf r → ValidAgents (record { m = r .m; n = r .n; valuations = row })
+valid-agents r row v e = record { small = v .small; some = v .some; few = v .few; valuations-long = valued-long r row e }
 
 module _ (plan before : List ℕ) (r : Reading) (is : r ≡ readPlan plan) where
   pub answer-read : r .refusal ≢ 0 → Refused (r .refusal) (r .place) ≡ buildAnswer plan before
@@ -44,10 +47,10 @@ module _ (plan before : List ℕ) (r : Reading) (is : r ≡ readPlan plan) where
       sym here ∙ ap (λ (x : Reading). answerBy x (length before)) is
 
   -- what is written is accepted
-  pub sheet-wrote : (valid : Valid r) → r .refusal ≡ 0 → (long : ℕ) → long ≡ lengthOf (r .m) (r .n) → long ≤ length before → (after : List ℕ) (total : ℕ) (d : Division)
-      → Written before after (r .m) (r .n) total d → Divided (record { m = r .m; n = r .n; teams = r .teams }) d → Counted (d .holding) total → Answered plan before after (Wrote long)
-  sheet-wrote valid z long e l after total d w div count =
+  pub sheet-wrote : (valid : Valid r) → r .refusal ≡ 0 → (long : ℕ) → long ≡ lengthOf (r .m) (r .n) → long ≤ length before → (row : List Valuation) → row ≡ valuationsOf r → (after : List ℕ) (total : ℕ) (d : Division)
+      → Written before after (r .m) (r .n) total d → Divided (record { m = r .m; n = r .n; valuations = row }) d → Counted (d .holding) total → Answered plan before after (Wrote long)
+  sheet-wrote valid z long e l row same after total d w div count =
       let room = rw e at l in
       rw e (sheet (lengthOf (r .m) (r .n)) (w .long) room
-      (ap (λ (x : Reading). verdictOf x (take (lengthOf (r .m) (r .n)) after)) (sym is) ∙ accepts r (take (lengthOf (r .m) (r .n)) after) (states r valid z before after total d w room div count))
-      (rest-same r valid z before after total d w room div count))
+      (ap (λ (x : Reading). verdictOf x (take (lengthOf (r .m) (r .n)) after)) (sym is) ∙ accepts r (take (lengthOf (r .m) (r .n)) after) (states r valid row same z before after total d w room div count))
+      (rest-same r valid row same z before after total d w room div count))

@@ -10,7 +10,8 @@ use lib.ListN.{getD}
 use Rattle.engine.specs.declared.divide.Division.{Division}
 use Rattle.engine.specs.declared.share.Shared.{Shared}
 use Rattle.engine.specs.Divide.{noShare}
-use Rattle.sheet.specs.Layout.{pageLength, shareStart, share-first, share-next, end-last}
+use Rattle.sheet.specs.Layout.{pageLength, shareStart}
+use Rattle.sheet.proofs.Places.{share-first, share-next, end-last}
 use Rattle.builder.specs.Rows.{Row, three, setBytes, rowBytes, join, pageBytes, PagesRow, Written}
 use Rattle.builder.proofs.Rowing.{row-join}
 

@@ -1,6 +1,6 @@
 -- What is written of a division states the facts that Check asks for.
 use Prim.Native.Nat.{ℕ, _+_, _-_, _*_, _/_, _%_, _^_, _≤_, _<_}
-use mathlib.Core.Path.{_≡_, refl, sym, ap, _∙_, subst, subst⁻¹}
+use mathlib.Core.Path.{_≡_, refl, sym, ap, ap₂, _∙_, subst, subst⁻¹, fun-ext}
 use mathlib.Core.Bool.{true}
 use mathlib.Core.Logic.{inl, inr}
 use mathlib.Core.List.{List}
@@ -9,21 +9,29 @@ use lib.Dec.{T, eqb, ltb}
 use lib.ListN.{length, getD, take, drop, length-drop}
 use lib.Seq.{length-take-le, getD-take, getD-drop, ext-getD}
 use borrow.Author.Tests.{lt-ltb, le-ltb}
-use Rattle.matroid.specs.Set.{size, size-same}
-use Rattle.matroid.specs.Matroid.{worth, worth-same}
+use Rattle.matroid.specs.Set.{complement, size}
+use Rattle.matroid.specs.SetLaws.{size-same}
+use Rattle.matroid.specs.Sum.{sum}
+use Rattle.matroid.specs.Matroid.{Matroid, worth}
 use Rattle.matroid.specs.Division.{bundle, held}
+use Rattle.matroid.proofs.Rank.{worth-same}
+use Rattle.sets.specs.Bits.{bit}
 use Rattle.plan.specs.declared.Reading.{Reading}
 use Rattle.plan.specs.Valid.{Valid}
-use Rattle.plan.proofs.Lists.{getD-any}
-use Rattle.kinds.specs.Teams.{seats}
+use Rattle.sets.proofs.Lists.{getD-any}
+use Rattle.kinds.specs.declared.Valuation.{Valuation}
+use Rattle.kinds.specs.Valuations.{matroids}
+use Rattle.plan.specs.Teams.{valuationsOf, teamMatroid}
+use Rattle.plan.proofs.Valuing.{matroids-of}
 use Rattle.engine.specs.declared.divide.Division.{Division}
-use Rattle.engine.specs.Seats.{holder, Held}
+use Rattle.exchange.specs.Agents.{holder, Held}
 use Rattle.engine.specs.Fill.{given}
 use Rattle.engine.specs.Share.{Counted}
 use Rattle.engine.specs.Divide.{noShare, Divided}
-use Rattle.engine.proofs.Words.{indep-alike}
-use Rattle.engine.proofs.Sharing.{given-count}
-use Rattle.sheet.specs.Layout.{lengthOf, boundStart, pageLength, shareStart, partStart, share-first, end-last}
+use Rattle.exchange.proofs.Words.{indep-alike}
+use Rattle.engine.proofs.Sharing.{given-count, held-agent}
+use Rattle.sheet.specs.Layout.{lengthOf, boundStart, pageLength, shareStart, partStart}
+use Rattle.sheet.proofs.Places.{share-first, end-last}
 use Rattle.sheet.specs.Fields.{totalAt, holderAt, boundAt, shareAt, setAt, partAt}
 use Rattle.sheet.specs.Form.{holder as holderTest}
 use Rattle.sheet.specs.Formed.{Formed}
@@ -59,9 +67,9 @@ page-part t k one =
     let f : 8 + k - 8 ≡ k = omega arith in
     rw (le-ltb (11 + k) 3 (omega arith), e, le-ltb (8 + k) 8 (omega arith), f) refl
 
-module _ (r : Reading) (valid : Valid r) (read : r .refusal ≡ 0) (before after : List ℕ) (total : ℕ) (d : Division)
+module _ (r : Reading) (valid : Valid r) (row : List Valuation) (same : row ≡ valuationsOf r) (read : r .refusal ≡ 0) (before after : List ℕ) (total : ℕ) (d : Division)
     (w : Written before after (r .m) (r .n) total d) (room : lengthOf (r .m) (r .n) ≤ length before)
-    (div : Divided (record { m = r .m; n = r .n; teams = r .teams }) d) (count : Counted (d .holding) total) where
+    (div : Divided (record { m = r .m; n = r .n; valuations = row }) d) (count : Counted (d .holding) total) where
   abbrev m : ℕ
   m = r .m
 
@@ -77,8 +85,15 @@ module _ (r : Reading) (valid : Valid r) (read : r .refusal ≡ 0) (before after
   abbrev D : ℕ → ℕ
   D = holder (d .holding .owner)
 
-  hold : Held (record { m = r .m; n = r .n; teams = r .teams }) (d .holding)
+  hold : Held (record { m = r .m; n = r .n; valuations = row }) (d .holding)
   hold = div .full .held
+
+  -- the agents' matroids are the teams'
+  abbrev agent : ℕ → Matroid m
+  agent = matroids (r .m) row
+
+  teams : agent ≡ teamMatroid r
+  teams = ap (matroids (r .m)) same ∙ fun-ext (matroids-of r (valid .few))
 
   -- within the first L bytes
   at : (i : ℕ) → i < L → getD sheet i 0 ≡ getD after i 0
@@ -191,14 +206,14 @@ module _ (r : Reading) (valid : Valid r) (read : r .refusal ≡ 0) (before after
   same-held = size-same m {A = held n (holderAt sheet)} {B = held n D}
       (record { at = λ k l x. subst (λ (y : ℕ). T (ltb y n)) (holder-at k l) x }) (record { at = λ k l x. subst⁻¹ (λ (y : ℕ). T (ltb y n)) (holder-at k l) x })
 
-  same-part : (t : ℕ) → t < n → (p : ℕ) → worth (seats r t) (bundle (partAt m sheet t) p) ≡ worth (seats r t) (bundle (λ g. getD (getD (d .shares) t noShare .part) g 0) p)
-  same-part t l p = worth-same (seats r t) {S = bundle (partAt m sheet t) p} {S′ = bundle (λ g. getD (getD (d .shares) t noShare .part) g 0) p}
+  same-part : (t : ℕ) → t < n → (p : ℕ) → worth (agent t) (bundle (partAt m sheet t) p) ≡ worth (agent t) (bundle (λ g. getD (getD (d .shares) t noShare .part) g 0) p)
+  same-part t l p = worth-same (agent t) {S = bundle (partAt m sheet t) p} {S′ = bundle (λ g. getD (getD (d .shares) t noShare .part) g 0) p}
       (record { at = λ k b x. subst (λ (y : ℕ). T (eqb y p)) (part-is t l k b) x }) (record { at = λ k b x. subst⁻¹ (λ (y : ℕ). T (eqb y p)) (part-is t l k b) x })
 
   count-is : total ≡ size m (held n D)
-  count-is = count .is ∙ rw (hold .m, hold .n) refl
+  count-is = count .is ∙ ap₂ size (hold .m) (fun-ext (held-agent (record { m = r .m; n = r .n; valuations = row }) (d .holding) hold))
 
-  given-is : total ≡ given (record { m = r .m; n = r .n; teams = r .teams }) (d .holding .owner)
+  given-is : total ≡ given (record { m = r .m; n = r .n; valuations = row }) (d .holding .owner)
   given-is = given-count _ (d .holding) total hold count
 
   pub states : Stated r sheet
@@ -206,16 +221,22 @@ module _ (r : Reading) (valid : Valid r) (read : r .refusal ≡ 0) (before after
     read = read;
     long = length-take-le L after (let long = w .long in omega arith);
     formed = formed;
-    independent = λ t l. indep-alike (seats r t) (bundle D t) (bundle (holderAt sheet) t) (same-bundle t) (hold .sound t l);
+    independent = λ t l. subst (λ (M : ℕ → Matroid m). M t .Indep (bundle (holderAt sheet) t)) teams (indep-alike (agent t) (bundle D t) (bundle (holderAt sheet) t) (same-bundle t) (hold .sound t l));
     given = total-at ∙ count-is ∙ sym same-held;
-    bound = total-at ∙ given-is ∙ div .full .full ∙ rw bound-at refl;
+    bound =
+        total-at ∙ given-is ∙ div .full .full
+        ∙ subst
+        (λ (M : ℕ → Matroid m). size m (complement (bit (d .bound))) + sum n (λ t. worth (agent t) (bit (d .bound))) ≡ size m (complement (bit (boundAt m sheet))) + sum n (λ t. worth (M t) (bit (boundAt m sheet))))
+        teams (rw bound-at refl);
     reached = λ t l p b.
         let fair = div .shares .at t l .fair p b in
         let s = share-at t l in
-        let same = same-part t l p in
-        omega arith;
-    limited = λ t l. rw (share-at t l, set-at t l) (div .shares .at t l .tight);
-    enough = λ t l. let s = share-at t l in let same = same-size t in let reached = div .reached t l in omega arith;
+        let alike = same-part t l p in
+        subst (λ (M : ℕ → Matroid m). shareAt m sheet t ≤ worth (M t) (bundle (partAt m sheet t) p)) teams (omega arith);
+    limited = λ t l.
+        subst (λ (M : ℕ → Matroid m). size m (complement (bit (setAt m sheet t))) + n * worth (M t) (bit (setAt m sheet t)) < n * (shareAt m sheet t + 1)) teams
+        (rw (share-at t l, set-at t l) (div .shares .at t l .tight));
+    enough = λ t l. let s = share-at t l in let alike = same-size t in let reached = div .reached t l in omega arith;
   }
 
   -- the rest of the buffer

@@ -24,17 +24,17 @@ abbrev pub buildAnswer : (plan buffer : List ℕ) → Built
 buildAnswer plan buffer = answerBy (readPlan plan) (length buffer)
 
 -- the answer's number, place and length
-abbrev pub numberOf : Built → ℕ
-numberOf (Refused number place) = number
-numberOf (Wrote long) = 0
+abbrev pub builtNumber : Built → ℕ
+builtNumber (Refused number place) = number
+builtNumber (Wrote long) = 0
 
-abbrev pub placeOf : Built → ℕ
-placeOf (Refused number place) = place
-placeOf (Wrote long) = 0
+abbrev pub builtPlace : Built → ℕ
+builtPlace (Refused number place) = place
+builtPlace (Wrote long) = 0
 
-abbrev pub lengthWritten : Built → ℕ
-lengthWritten (Refused number place) = 0
-lengthWritten (Wrote long) = long
+abbrev pub builtLength : Built → ℕ
+builtLength (Refused number place) = 0
+builtLength (Wrote long) = long
 
 -- On a refusal the buffer is as it was. Otherwise "the first L bytes become the sheet, the rest stays": Check accepts the first L bytes, and
 -- every byte beyond them is as before.

@@ -1,7 +1,7 @@
 // Build: writes a sheet that Check accepts.
 ghost use mathlib.Core.Path.{_≡_};
 ghost use Rattle.builder.specs.Build.{buildAnswer, Answered};
-use engine::Seats;
+use exchange::Agents;
 
 pub mod write;
 
@@ -24,13 +24,13 @@ pub fn build(plan: &[u8], buffer: &mut [u8]) -> Built
     if buffer.len() < long {
         return Built::Refused(10, long);
     }
-    let teams = r.teams;
-    let seats = Seats {
+    let valuations = plan::valuations_of(r);
+    let agents = Agents {
         m: r.m,
         n: r.n,
-        teams,
+        valuations,
     };
-    let d = engine::divide::divide(seats);
+    let d = engine::divide::divide(agents);
     let h = d.holding;
     let total = engine::share::count_given(h) as u8;
     write::write_sheet(buffer, r.m, r.n, total, d);

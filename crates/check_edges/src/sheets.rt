@@ -1,5 +1,5 @@
 // The verbs that judge a sheet by a plan.
-ghost use Prim.Native.Nat.{_<_, _≤_};
+ghost use Prim.Native.Nat.{_<_};
 ghost use lib.ListN.{length};
 use checker::Verdict;
 use lines::print;

@@ -2,34 +2,41 @@
 use Prim.Native.Nat.{ℕ, _+_, _*_, _≤_, _<_}
 use mathlib.Core.Path.{_≡_, refl, sym, ap, _∙_}
 use mathlib.Core.Bool.{Bool, true, false, _&&_, not, cond, false≢true}
-use mathlib.Core.List.{List, _∷_}
+use mathlib.Core.List.{List}
 use native.Mathlib.Omega.{arith}
 use native.Mathlib.Nat.{lt-of-mul-lt-mul-left}
 use lib.Dec.{eqb, leb}
 use borrow.Author.Tests.{lt-ltb, le-ltb, ltb-true, ltb-false, le-leb, leb-true, eq-eqb, eqb-true, not-false}
-use Rattle.matroid.specs.Set.{Set, _∩_, complement, size, within-refl, inter-left, inter-most, size-same}
-use Rattle.matroid.specs.Sum.{sum, sum-same, sum-const, sum-less}
-use Rattle.matroid.specs.Matroid.{worth, worth-indep, indep-worth}
-use Rattle.matroid.specs.Division.{bundle, held, total, sum-bundles, weak-duality}
+use Rattle.matroid.specs.Set.{Set, _∩_, complement, size}
+use Rattle.matroid.specs.SetLaws.{within-refl, inter-left, inter-most, size-same}
+use Rattle.matroid.specs.Sum.{sum}
+use Rattle.matroid.specs.Matroid.{worth}
+use Rattle.matroid.specs.Division.{bundle, held, total}
+use Rattle.matroid.specs.DivisionLaws.{sum-less, sum-bundles}
 use Rattle.matroid.specs.Cuts.{Cuts}
-use Rattle.matroid.specs.Share.{share, share-most, share-bound}
-use Rattle.matroid.specs.Best.{best, best-most, best-attained}
+use Rattle.matroid.specs.Share.{share}
+use Rattle.matroid.specs.Best.{best}
+use Rattle.matroid.proofs.Sums.{sum-same, sum-const}
+use Rattle.matroid.proofs.Rank.{worth-indep, indep-worth}
+use Rattle.matroid.proofs.Duality.{weak-duality}
+use Rattle.matroid.proofs.Shares.{share-most, share-bound}
+use Rattle.matroid.proofs.Optimum.{best-most, best-attained}
 use Rattle.sets.specs.Bits.{bit}
 use Rattle.plan.specs.declared.Reading.{Reading}
 use Rattle.plan.specs.Read.{readPlan}
-use Rattle.kinds.specs.Teams.{seats}
+use Rattle.plan.specs.Teams.{teamMatroid}
 use Rattle.sheet.specs.Fields.{totalAt, holderAt, boundAt, shareAt, setAt, partAt}
 use Rattle.sheet.specs.Form.{form}
 use Rattle.sheet.proofs.Forming.{form-passes, passes-form, formed-passes, passes-formed}
+use Rattle.checker.specs.declared.Verdict.{Verdict}
 use Rattle.checker.specs.declared.Verdict.the-variants.{Accepted, Refused}
-use Rattle.checker.specs.Verdict.{Rule, firstBroken}
 use Rattle.checker.specs.Rules.{independent, dependentAt, boundOf, totalHolds, partsHold, shareHolds, wrongShareAt, shortAt}
 use Rattle.checker.specs.Check.{verdictOf, checkSheet}
 use Rattle.checker.specs.Stated.{Stated}
 use Rattle.checker.specs.Fair.{FairBy, Fair}
 use Rattle.checker.proofs.Lowest.{lowest-none, lowest-all, every-true, every-all}
 use Rattle.checker.proofs.Bundles.{independent-yes, independent-worth}
-use Rattle.checker.proofs.Verdicts.{kept, none-broken}
+use Rattle.checker.proofs.Verdicts.{kept}
 
 -- ---- two tests
 
@@ -46,47 +53,43 @@ and-right false b e = absurd (false≢true e)
 refused-not : (number place : ℕ) → Accepted ≡ Refused number place → ⊥
 refused-not number place e = let z : _≡_ {A = ℕ} 0 1 = cc in omega arith
 
-unbroken : (x : Rule) (xs : List Rule) → Accepted ≡ firstBroken (x ∷ xs) → (x .broken ≡ false) × (Accepted ≡ firstBroken xs)
-unfolding firstBroken
-unbroken x xs e = go (x .broken) e
-  where
-    go : (b : Bool) → Accepted ≡ cond b (Refused (x .number) (x .place)) (firstBroken xs) → (b ≡ false) × (Accepted ≡ firstBroken xs)
-    go true h = absurd (refused-not (x .number) (x .place) h)
-    go false h = (refl, h)
+unbroken : (b : Bool) (number place : ℕ) (rest : Verdict) → Accepted ≡ cond b (Refused number place) rest → (b ≡ false) × (Accepted ≡ rest)
+unbroken true number place rest h = absurd (refused-not number place h)
+unbroken false number place rest h = (refl, h)
 
 module _ (r : Reading) (sheet : List ℕ) where
   -- the test of rule 15 for a team
   share-test : ℕ → Bool
-  share-test t = shareHolds (seats r t) (r .n) (shareAt (r .m) sheet t) (setAt (r .m) sheet t) (partAt (r .m) sheet t)
+  share-test t = shareHolds (teamMatroid r t) (r .n) (shareAt (r .m) sheet t) (setAt (r .m) sheet t) (partAt (r .m) sheet t)
 
   -- ---- from acceptance to the facts
 
   -- rule 15 for one team
-  share-reached : (t : ℕ) → share-test t ≡ true → (p : ℕ) → p < r .n → shareAt (r .m) sheet t ≤ worth (seats r t) (bundle (partAt (r .m) sheet t) p)
+  share-reached : (t : ℕ) → share-test t ≡ true → (p : ℕ) → p < r .n → shareAt (r .m) sheet t ≤ worth (teamMatroid r t) (bundle (partAt (r .m) sheet t) p)
   unfolding share-test shareHolds partsHold
-  share-reached t e p l = leb-true _ _ (every-all (r .n) (λ p. leb (shareAt (r .m) sheet t) (worth (seats r t) (bundle (partAt (r .m) sheet t) p))) (and-left _ _ e) p l)
+  share-reached t e p l = leb-true _ _ (every-all (r .n) (λ p. leb (shareAt (r .m) sheet t) (worth (teamMatroid r t) (bundle (partAt (r .m) sheet t) p))) (and-left _ _ e) p l)
 
-  share-limited : (t : ℕ) → share-test t ≡ true → size (r .m) (complement (bit (setAt (r .m) sheet t))) + r .n * worth (seats r t) (bit (setAt (r .m) sheet t)) < r .n * (shareAt (r .m) sheet t + 1)
+  share-limited : (t : ℕ) → share-test t ≡ true → size (r .m) (complement (bit (setAt (r .m) sheet t))) + r .n * worth (teamMatroid r t) (bit (setAt (r .m) sheet t)) < r .n * (shareAt (r .m) sheet t + 1)
   unfolding share-test shareHolds
-  share-limited t e = ltb-true _ _ (and-right (partsHold (seats r t) (r .n) (shareAt (r .m) sheet t) (partAt (r .m) sheet t)) _ e)
+  share-limited t e = ltb-true _ _ (and-right (partsHold (teamMatroid r t) (r .n) (shareAt (r .m) sheet t) (partAt (r .m) sheet t)) _ e)
 
   -- rule 14
-  total-given : totalHolds r sheet ≡ true → totalAt sheet ≡ size (r .m) (held (r .n) (holderAt sheet))
+  total-given : totalHolds (r .n) (teamMatroid r) sheet ≡ true → totalAt sheet ≡ size (r .m) (held (r .n) (holderAt sheet))
   unfolding totalHolds
   total-given e = eqb-true _ _ (and-left _ _ e)
 
-  total-bound : totalHolds r sheet ≡ true → totalAt sheet ≡ size (r .m) (complement (bit (boundAt (r .m) sheet))) + sum (r .n) (λ t. worth (seats r t) (bit (boundAt (r .m) sheet)))
+  total-bound : totalHolds (r .n) (teamMatroid r) sheet ≡ true → totalAt sheet ≡ size (r .m) (complement (bit (boundAt (r .m) sheet))) + sum (r .n) (λ t. worth (teamMatroid r t) (bit (boundAt (r .m) sheet)))
   unfolding totalHolds boundOf
   total-bound e = eqb-true _ _ (and-right (eqb (totalAt sheet) (size (r .m) (held (r .n) (holderAt sheet)))) _ e)
 
   -- each "lowest team" is none
-  all-independent : r .n ≤ dependentAt r (holderAt sheet) → (t : ℕ) → t < r .n → independent (seats r t) (bundle (holderAt sheet) t) ≡ true
+  all-independent : r .n ≤ dependentAt (r .n) (teamMatroid r) (holderAt sheet) → (t : ℕ) → t < r .n → independent (teamMatroid r t) (bundle (holderAt sheet) t) ≡ true
   unfolding dependentAt
-  all-independent h t l = lowest-all (r .n) (λ t. independent (seats r t) (bundle (holderAt sheet) t)) h t l
+  all-independent h t l = lowest-all (r .n) (λ t. independent (teamMatroid r t) (bundle (holderAt sheet) t)) h t l
 
-  all-shares : r .n ≤ wrongShareAt r sheet → (t : ℕ) → t < r .n → share-test t ≡ true
+  all-shares : r .n ≤ wrongShareAt (r .n) (teamMatroid r) sheet → (t : ℕ) → t < r .n → share-test t ≡ true
   unfolding wrongShareAt share-test
-  all-shares h t l = lowest-all (r .n) (λ t. shareHolds (seats r t) (r .n) (shareAt (r .m) sheet t) (setAt (r .m) sheet t) (partAt (r .m) sheet t)) h t l
+  all-shares h t l = lowest-all (r .n) (λ t. shareHolds (teamMatroid r t) (r .n) (shareAt (r .m) sheet t) (setAt (r .m) sheet t) (partAt (r .m) sheet t)) h t l
 
   all-enough : r .n ≤ shortAt (r .m) (r .n) sheet → (t : ℕ) → t < r .n → shareAt (r .m) sheet t ≤ size (r .m) (bundle (holderAt sheet) t)
   unfolding shortAt
@@ -95,20 +98,20 @@ module _ (r : Reading) (sheet : List ℕ) where
   pub stated : Accepted ≡ verdictOf r sheet → Stated r sheet
   unfolding verdictOf
   stated e =
-      let (read, e₁) = unbroken _ _ e in
-      let (long, e₂) = unbroken _ _ e₁ in
-      let (form, e₃) = unbroken _ _ e₂ in
-      let (indep, e₄) = unbroken _ _ e₃ in
-      let (sum, e₅) = unbroken _ _ e₄ in
-      let (shares, e₆) = unbroken _ _ e₅ in
-      let (short, _) = unbroken _ _ e₆ in
+      let (read, e₁) = unbroken _ _ _ _ e in
+      let (long, e₂) = unbroken _ _ _ _ e₁ in
+      let (form, e₃) = unbroken _ _ _ _ e₂ in
+      let (indep, e₄) = unbroken _ _ _ _ e₃ in
+      let (sum, e₅) = unbroken _ _ _ _ e₄ in
+      let (shares, e₆) = unbroken _ _ _ _ e₅ in
+      let (short, _) = unbroken _ _ _ _ e₆ in
       let holds = not-false _ sum in
       let shown = all-shares (ltb-false _ _ shares) in
       record {
         read = eqb-true _ _ (not-false _ read);
         long = eqb-true _ _ (not-false _ long);
         formed = passes-formed sheet (r .m) (r .n) (form-passes sheet (r .m) (r .n) (ltb-false _ _ form));
-        independent = λ t l. indep-worth (seats r t) (bundle (holderAt sheet) t) (independent-worth (seats r t) (bundle (holderAt sheet) t) (all-independent (ltb-false _ _ indep) t l));
+        independent = λ t l. indep-worth (teamMatroid r t) (bundle (holderAt sheet) t) (independent-worth (teamMatroid r t) (bundle (holderAt sheet) t) (all-independent (ltb-false _ _ indep) t l));
         given = total-given holds;
         bound = total-bound holds;
         reached = λ t l. share-reached t (shown t l);
@@ -119,12 +122,12 @@ module _ (r : Reading) (sheet : List ℕ) where
   -- ---- from the facts to acceptance
 
   module _ (s : Stated r sheet) where
-    none-dependent : r .n ≡ dependentAt r (holderAt sheet)
+    none-dependent : r .n ≡ dependentAt (r .n) (teamMatroid r) (holderAt sheet)
     unfolding dependentAt
-    none-dependent = lowest-none (r .n) (λ t. independent (seats r t) (bundle (holderAt sheet) t))
-        (λ t l. independent-yes (seats r t) (bundle (holderAt sheet) t) (worth-indep (seats r t) (bundle (holderAt sheet) t) (s .independent t l)))
+    none-dependent = lowest-none (r .n) (λ t. independent (teamMatroid r t) (bundle (holderAt sheet) t))
+        (λ t l. independent-yes (teamMatroid r t) (bundle (holderAt sheet) t) (worth-indep (teamMatroid r t) (bundle (holderAt sheet) t) (s .independent t l)))
 
-    total-holds : totalHolds r sheet ≡ true
+    total-holds : totalHolds (r .n) (teamMatroid r) sheet ≡ true
     unfolding totalHolds boundOf
     total-holds = rw (eq-eqb _ _ (s .given), eq-eqb _ _ (s .bound)) refl
 
@@ -132,14 +135,14 @@ module _ (r : Reading) (sheet : List ℕ) where
     unfolding share-test shareHolds partsHold
     share-holds t l =
         rw (
-          every-true (r .n) (λ p. leb (shareAt (r .m) sheet t) (worth (seats r t) (bundle (partAt (r .m) sheet t) p))) (λ p b. le-leb _ _ (s .reached t l p b)),
+          every-true (r .n) (λ p. leb (shareAt (r .m) sheet t) (worth (teamMatroid r t) (bundle (partAt (r .m) sheet t) p))) (λ p b. le-leb _ _ (s .reached t l p b)),
           lt-ltb _ _ (s .limited t l),
         )
         refl
 
-    none-wrong : r .n ≡ wrongShareAt r sheet
+    none-wrong : r .n ≡ wrongShareAt (r .n) (teamMatroid r) sheet
     unfolding wrongShareAt share-test
-    none-wrong = lowest-none (r .n) (λ t. shareHolds (seats r t) (r .n) (shareAt (r .m) sheet t) (setAt (r .m) sheet t) (partAt (r .m) sheet t)) share-holds
+    none-wrong = lowest-none (r .n) (λ t. shareHolds (teamMatroid r t) (r .n) (shareAt (r .m) sheet t) (setAt (r .m) sheet t) (partAt (r .m) sheet t)) share-holds
 
     none-short : r .n ≡ shortAt (r .m) (r .n) sheet
     unfolding shortAt
@@ -152,13 +155,13 @@ module _ (r : Reading) (sheet : List ℕ) where
         let w = none-wrong in
         let k = none-short in
         sym
-        (kept _ _ Accepted (ap not (eq-eqb _ _ (s .read)))
-        (kept _ _ Accepted (ap not (eq-eqb _ _ (s .long)))
-        (kept _ _ Accepted (le-ltb _ _ (passes-form sheet (r .m) (r .n) (formed-passes sheet (r .m) (r .n) (s .formed))))
-        (kept _ _ Accepted (le-ltb (dependentAt r (holderAt sheet)) (r .n) (omega arith))
-        (kept _ _ Accepted (ap not total-holds)
-        (kept _ _ Accepted (le-ltb (wrongShareAt r sheet) (r .n) (omega arith))
-        (kept _ _ Accepted (le-ltb (shortAt (r .m) (r .n) sheet) (r .n) (omega arith)) none-broken)))))))
+        (kept _ _ _ Accepted (ap not (eq-eqb _ _ (s .read)))
+        (kept _ _ _ Accepted (ap not (eq-eqb _ _ (s .long)))
+        (kept _ _ _ Accepted (le-ltb _ _ (passes-form sheet (r .m) (r .n) (formed-passes sheet (r .m) (r .n) (s .formed))))
+        (kept _ _ _ Accepted (le-ltb (dependentAt (r .n) (teamMatroid r) (holderAt sheet)) (r .n) (omega arith))
+        (kept _ _ _ Accepted (ap not total-holds)
+        (kept _ _ _ Accepted (le-ltb (wrongShareAt (r .n) (teamMatroid r) sheet) (r .n) (omega arith))
+        (kept _ _ _ Accepted (le-ltb (shortAt (r .m) (r .n) sheet) (r .n) (omega arith)) refl)))))))
 
     -- ---- from the facts to what they mean
 
@@ -175,41 +178,41 @@ module _ (r : Reading) (sheet : List ℕ) where
         whole : (A : Set) → size (r .m) A ≡ size (r .m) (A ∩ all)
         whole A = size-same (r .m) (inter-most within-refl (record { at = λ k _ _. tt })) (inter-left A all)
 
-    held-worth : (t : ℕ) → t < r .n → worth (seats r t) (bundle (holderAt sheet) t) ≡ size (r .m) (bundle (holderAt sheet) t)
-    held-worth t l = worth-indep (seats r t) (bundle (holderAt sheet) t) (s .independent t l)
+    held-worth : (t : ℕ) → t < r .n → worth (teamMatroid r t) (bundle (holderAt sheet) t) ≡ size (r .m) (bundle (holderAt sheet) t)
+    held-worth t l = worth-indep (teamMatroid r t) (bundle (holderAt sheet) t) (s .independent t l)
 
-    total-true : totalAt sheet ≡ total (r .n) (seats r) (holderAt sheet)
+    total-true : totalAt sheet ≡ total (r .n) (teamMatroid r) (holderAt sheet)
     total-true =
         s .given
         ∙ given-sum
-        ∙ sym (sum-same (r .n) (λ t. worth (seats r t) (bundle (holderAt sheet) t)) (λ t. size (r .m) (bundle (holderAt sheet) t)) held-worth)
+        ∙ sym (sum-same (r .n) (λ t. worth (teamMatroid r t) (bundle (holderAt sheet) t)) (λ t. size (r .m) (bundle (holderAt sheet) t)) held-worth)
 
-    total-best : (D : ℕ → ℕ) → total (r .n) (seats r) D ≤ totalAt sheet
-    total-best D = let b = s .bound in let w = weak-duality (r .n) (seats r) D (bit (boundAt (r .m) sheet)) in omega arith
+    total-best : (D : ℕ → ℕ) → total (r .n) (teamMatroid r) D ≤ totalAt sheet
+    total-best D = let b = s .bound in let w = weak-duality (r .n) (teamMatroid r) D (bit (boundAt (r .m) sheet)) in omega arith
 
     module _ (t : ℕ) (l : t < r .n) where
       -- the PARTs are a cut whose every part is worth the share, so it is no more than the team's share
-      share-le : shareAt (r .m) sheet t ≤ share (seats r t) (r .n)
-      share-le = share-most (seats r t) (r .n) (omega arith) (shareAt (r .m) sheet t) (record { part = partAt (r .m) sheet t; below = s .formed .part-below t l; fair = s .reached t l })
+      share-le : shareAt (r .m) sheet t ≤ share (teamMatroid r t) (r .n)
+      share-le = share-most (teamMatroid r t) (r .n) (omega arith) (shareAt (r .m) sheet t) (record { part = partAt (r .m) sheet t; below = s .formed .part-below t l; fair = s .reached t l })
 
       -- and the set allows none that is larger
-      share-ge : share (seats r t) (r .n) < shareAt (r .m) sheet t + 1
+      share-ge : share (teamMatroid r t) (r .n) < shareAt (r .m) sheet t + 1
       share-ge =
-          let b = share-bound (seats r t) (r .n) (omega arith) (bit (setAt (r .m) sheet t)) in
+          let b = share-bound (teamMatroid r t) (r .n) (omega arith) (bit (setAt (r .m) sheet t)) in
           let m = s .limited t l in
           lt-of-mul-lt-mul-left (r .n) (omega arith)
 
-      share-true : shareAt (r .m) sheet t ≡ share (seats r t) (r .n)
+      share-true : shareAt (r .m) sheet t ≡ share (teamMatroid r t) (r .n)
       share-true = let a = share-le in let b = share-ge in omega arith
 
       -- were every part of a cut worth more than the share, they would be worth more in all than the set allows
-      cut-matched : (C : ℕ → ℕ) → Cuts (r .m) (r .n) C → (p : ℕ) × (p < r .n) × (worth (seats r t) (bundle C p) ≤ worth (seats r t) (bundle (holderAt sheet) t))
+      cut-matched : (C : ℕ → ℕ) → Cuts (r .m) (r .n) C → (p : ℕ) × (p < r .n) × (worth (teamMatroid r t) (bundle C p) ≤ worth (teamMatroid r t) (bundle (holderAt sheet) t))
       cut-matched C cut =
-          let dual = weak-duality (r .n) (λ _. seats r t) C (bit (setAt (r .m) sheet t)) in
-          let each-set = sum-const (r .n) (worth (seats r t) (bit (setAt (r .m) sheet t))) in
+          let dual = weak-duality (r .n) (λ _. teamMatroid r t) C (bit (setAt (r .m) sheet t)) in
+          let each-set = sum-const (r .n) (worth (teamMatroid r t) (bit (setAt (r .m) sheet t))) in
           let each-share = sum-const (r .n) (shareAt (r .m) sheet t + 1) in
           let m = s .limited t l in
-          let (p, b, less) = sum-less (r .n) (λ p. worth (seats r t) (bundle C p)) (λ p. shareAt (r .m) sheet t + 1) (omega arith) in
+          let (p, b, less) = sum-less (r .n) (λ p. worth (teamMatroid r t) (bundle C p)) (λ p. shareAt (r .m) sheet t + 1) (omega arith) in
           let w = held-worth t l in
           let e = s .enough t l in
           (p, b, omega arith)
@@ -218,12 +221,12 @@ module _ (r : Reading) (sheet : List ℕ) where
     fair-stated = record { total-true = total-true; total-best = total-best; shares-true = share-true; cut-matched = cut-matched }
 
     -- the total stated is the best one
-    pub best-stated : totalAt sheet ≡ best (r .n) (seats r)
+    pub best-stated : totalAt sheet ≡ best (r .n) (teamMatroid r)
     best-stated =
-        let a = best-attained (r .n) (seats r) in
+        let a = best-attained (r .n) (teamMatroid r) in
         let e = a .full in
         let u = total-best (a .holder) in
-        let l = best-most (r .n) (seats r) (holderAt sheet) in
+        let l = best-most (r .n) (teamMatroid r) (holderAt sheet) in
         let t = total-true in
         omega arith
 

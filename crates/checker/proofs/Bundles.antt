@@ -1,43 +1,28 @@
 -- The words of a division or a cut stand for its bundles: they are worth the same and have the same size.
-use Prim.Native.Nat.{ℕ, zero, suc, _≤_, _<_}
+use Prim.Native.Nat.{ℕ, _≤_, _<_}
 use mathlib.Core.Path.{_≡_, refl, sym, ap, _∙_, subst, fun-ext}
 use mathlib.Core.Bool.{Bool, true, false, _&&_, not, false≢true}
 use mathlib.Core.List.{List}
 use native.Mathlib.Omega.{arith}
-use native.Mathlib.Decide.{decLt}
 use lib.Dec.{T, eqb, ltb, lt→ltb}
-use lib.ListN.{getD}
-use borrow.Author.Tests.{lt-ltb, le-ltb}
+use lib.ListN.{length, getD}
 use Rattle.matroid.specs.Taut.{both, and-right}
 use Rattle.matroid.specs.Decide.{isYes}
-use Rattle.matroid.specs.Set.{Set, _∩_, complement, under, one, size, size-le}
-use Rattle.matroid.specs.Matroid.{Matroid, worth, worth-same, worth-indep, indep-worth, worth-le-size}
+use Rattle.matroid.specs.Set.{Set, complement, under, size}
+use Rattle.matroid.specs.Matroid.{Matroid, worth}
 use Rattle.matroid.specs.Division.{bundle}
+use Rattle.matroid.proofs.Sets.{size-le}
+use Rattle.matroid.proofs.Rank.{worth-same, worth-indep, indep-worth, worth-le-size}
 use Rattle.sets.specs.Bits.{bit}
-use Rattle.sheet.specs.Named.{Words}
+use Rattle.sets.specs.Bundles.{Bundles}
+use Rattle.sets.proofs.Lists.{getD-any}
+use Rattle.kinds.specs.declared.Valuation.{Valuation}
+use Rattle.kinds.specs.Valuations.{matroidOf, matroids, blankValuation}
+use Rattle.plan.specs.declared.Reading.{Reading}
+use Rattle.plan.specs.Teams.{valuationsOf, teamMatroid}
+use Rattle.plan.proofs.Valuing.{matroids-of}
+use Rattle.sets.proofs.Below.{under-size}
 use Rattle.checker.specs.Rules.{independent}
-
--- sets that agree below w have the same size there
-size-agree : (w : ℕ) (A B : Set) → ((k : ℕ) → k < w → A k ≡ B k) → size w A ≡ size w B
-size-agree zero A B h = refl
-size-agree (suc w) A B h =
-    let below = size-agree w A B (λ k l. h k (omega arith)) in
-    let here = ap one (h w (omega arith)) in
-    omega arith
-
--- what lies below m is counted below m
-pub size-under : (w m : ℕ) (A : Set) → m ≤ w → size w (under m ∩ A) ≡ size m A
-size-under zero m A l = let z : m ≡ 0 = omega arith in rw z refl
-size-under (suc w) m A l = go (λ (h : m ≤ w). size-under w m A h) (decLt w m)
-  where
-    go : (m ≤ w → size w (under m ∩ A) ≡ size m A) → Dec (w < m) → size (suc w) (under m ∩ A) ≡ size m A
-    go rest (yes h) =
-        let e : m ≡ suc w = omega arith in
-        rw e (size-agree (suc w) (under (suc w) ∩ A) A (λ k b. rw (lt-ltb k (suc w) b) refl))
-    go rest (no h) =
-        let below = rest (omega arith) in
-        let out : one (ltb w m && A w) ≡ 0 = rw (le-ltb w m (omega arith)) refl in
-        omega arith
 
 -- how many are in a word
 unfoldable pub counted : List ℕ → ℕ → ℕ
@@ -47,7 +32,7 @@ pub counted-le : (words : List ℕ) (t : ℕ) → counted words t ≤ 64
 unfolding counted
 counted-le words t = size-le 64 (bit (getD words t 0))
 
-module _ (m : ℕ) (D : ℕ → ℕ) (words : List ℕ) (w : Words m D words) (t : ℕ) (l : t < 12) where
+module _ (m : ℕ) (D : ℕ → ℕ) (words : List ℕ) (w : Bundles m D words) (t : ℕ) (l : t < 12) where
   pub worth-word : (M : Matroid m) → worth M (bit (getD words t 0)) ≡ worth M (bundle D t)
   worth-word M = worth-same M {S = bit (getD words t 0)} {S′ = bundle D t}
       (record { at = λ k b h. and-right (ltb k m) (eqb (D k) t) (subst T (w .at t l k) h) })
@@ -55,12 +40,12 @@ module _ (m : ℕ) (D : ℕ → ℕ) (words : List ℕ) (w : Words m D words) (t
 
   pub size-word : m ≤ 64 → counted words t ≡ size m (bundle D t)
   unfolding counted
-  size-word small = ap (size 64) (fun-ext (λ j. w .at t l j)) ∙ size-under 64 m (bundle D t) small
+  size-word small = ap (size 64) (fun-ext (λ j. w .at t l j)) ∙ under-size 64 m (bundle D t) small
 
 -- the count of the word of the instruments outside a set
 pub outside-size : (m set all s r : ℕ) → m ≤ 64 → ((j : ℕ) → bit all j ≡ under m j) → ((j : ℕ) → bit s j ≡ (bit all j && not (bit set j))) → r ≡ size 64 (bit s) → r ≡ size m (complement (bit set))
 outside-size m set all s r l eall es er =
-    er ∙ ap (size 64) (fun-ext (λ j. es j ∙ ap (λ (b : Bool). b && not (bit set j)) (eall j))) ∙ size-under 64 m (complement (bit set)) l
+    er ∙ ap (size 64) (fun-ext (λ j. es j ∙ ap (λ (b : Bool). b && not (bit set j)) (eall j))) ∙ under-size 64 m (complement (bit set)) l
 
 -- worth is at most m
 pub worth-small : {m : ℕ} (M : Matroid m) (S : Set) → worth M S ≤ m
@@ -88,3 +73,11 @@ module _ {m : ℕ} (M : Matroid m) (A : Set) where
       go : (d : Dec (M .Indep A)) → isYes d ≡ true → worth M A ≡ size m A
       go (yes i) e = worth-indep M A i
       go (no n) e = absurd (false≢true e)
+
+-- an entry of twelve valuations, as the code reads it, has the matroid of that team
+pub agent-at : (m : ℕ) (row : List Valuation) (t : ℕ) (d : Valuation) → length row ≡ 12 → t < 12 → _≡_ {A = Matroid m} (matroidOf m (getD row t d)) (matroids m row t)
+agent-at m row t d long l = ap (matroidOf m) (getD-any row t d blankValuation (omega arith))
+
+-- the matroids of a plan's valuations are those of its teams
+pub agents-are : (r : Reading) (row : List Valuation) → r .n ≤ 12 → row ≡ valuationsOf r → _≡_ {A = ℕ → Matroid (r .m)} (matroids (r .m) row) (teamMatroid r)
+agents-are r row few e = ap (matroids (r .m)) e ∙ fun-ext (matroids-of r few)

@@ -8,15 +8,16 @@ use native.Mathlib.Omega.{arith}
 use native.Mathlib.Numerals.{add-one}
 use borrow.Author.Count.{below-more}
 use lib.ListN.{getD}
-use Rattle.matroid.specs.Set.{Set, _∩_, complement, size, within-refl, inter-left, inter-most, size-same, size-le}
-use Rattle.matroid.specs.Sum.{sum, sum-same}
-use Rattle.matroid.specs.Matroid.{worth}
-use Rattle.matroid.specs.Division.{bundle, held, sum-bundles}
+use Rattle.matroid.specs.Set.{Set, _∩_, complement, size}
+use Rattle.matroid.specs.SetLaws.{within-refl, inter-left, inter-most, size-same}
+use Rattle.matroid.specs.Sum.{sum}
+use Rattle.matroid.specs.Matroid.{Matroid, worth}
+use Rattle.matroid.specs.Division.{bundle, held}
+use Rattle.matroid.specs.DivisionLaws.{sum-bundles}
+use Rattle.matroid.proofs.Sets.{size-le}
+use Rattle.matroid.proofs.Sums.{sum-same}
 use Rattle.sets.specs.Bits.{bit}
-use Rattle.plan.specs.declared.Reading.{Reading}
-use Rattle.plan.specs.declared.Team.{Team}
-use Rattle.kinds.specs.Teams.{matroidOf, teamAt, seats}
-use Rattle.sheet.specs.Named.{Words}
+use Rattle.sets.specs.Bundles.{Bundles}
 use Rattle.checker.specs.Rules.{independent, dependentAt, boundOf}
 use Rattle.checker.proofs.Lowest.{lowest-at, lowest-none}
 use Rattle.checker.proofs.Bundles.{counted, counted-le, worth-word, size-word, worth-small, independent-yes, independent-no}
@@ -24,37 +25,37 @@ use Rattle.checker.proofs.Bundles.{counted, counted-le, worth-word, siz
 -- ---- 13
 
 -- the words of the first t teams are worth their sizes
-pub record Independent (r : Reading) (words : List ℕ) (t : ℕ) : Type 0 where
-  pub at : (k : ℕ) → k < t → worth (seats r k) (bit (getD words k 0)) ≡ counted words k
+pub record Independent {m : ℕ} (M : ℕ → Matroid m) (words : List ℕ) (t : ℕ) : Type 0 where
+  pub at : (k : ℕ) → k < t → worth (M k) (bit (getD words k 0)) ≡ counted words k
 
-pub indep-none : (r : Reading) (words : List ℕ) → Independent r words 0
-indep-none r words = record { at = λ k l. absurd (omega arith) }
+pub indep-none : {m : ℕ} (M : ℕ → Matroid m) (words : List ℕ) → Independent M words 0
+indep-none M words = record { at = λ k l. absurd (omega arith) }
 
-module _ (r : Reading) (words : List ℕ) (t : ℕ) (h : Independent r words t) where
+module _ (m n : ℕ) (M : ℕ → Matroid m) (words : List ℕ) (t : ℕ) (h : Independent M words t) where
   -- the test, as the code has it
-  module _ (team : Team) (v c : ℕ) (is-team : team ≡ teamAt (r .teams) (r .n) t) (is-v : v ≡ worth (matroidOf (r .m) team) (bit (getD words t 0))) (is-c : c ≡ size 64 (bit (getD words t 0))) where
-    here : v ≡ worth (seats r t) (bit (getD words t 0))
-    here = is-v ∙ ap (λ (x : Team). worth (matroidOf (r .m) x) (bit (getD words t 0))) is-team
+  module _ (N : Matroid m) (is-N : _≡_ {A = Matroid m} N (M t)) (v c : ℕ) (is-v : v ≡ worth N (bit (getD words t 0))) (is-c : c ≡ size 64 (bit (getD words t 0))) where
+    here : v ≡ worth (M t) (bit (getD words t 0))
+    here = is-v ∙ ap (λ (x : Matroid m). worth x (bit (getD words t 0))) is-N
 
     count : c ≡ counted words t
     unfolding counted
     count = is-c
 
-    pub indep-next : v ≡ c → Independent r words (t + 1)
-    indep-next e = record { at = below-more (λ k. worth (seats r k) (bit (getD words k 0)) ≡ counted words k) t (h .at) (sym here ∙ e ∙ count) }
+    pub indep-next : v ≡ c → Independent M words (t + 1)
+    indep-next e = record { at = below-more (λ k. worth (M k) (bit (getD words k 0)) ≡ counted words k) t (h .at) (sym here ∙ e ∙ count) }
 
-    pub indep-stop : r .m ≤ 64 → r .n ≤ 12 → t < r .n → v ≢ c → (D : ℕ → ℕ) → Words (r .m) D words → t ≡ dependentAt r D
+    pub indep-stop : m ≤ 64 → n ≤ 12 → t < n → v ≢ c → (D : ℕ → ℕ) → Bundles m D words → t ≡ dependentAt n M D
     unfolding dependentAt
     indep-stop m64 n12 l d D w =
-        lowest-at (r .n) (λ t. independent (seats r t) (bundle D t)) t l
-        (λ k b. independent-yes (seats r k) (bundle D k) (sym (worth-word (r .m) D words w k (omega arith) (seats r k)) ∙ h .at k b ∙ size-word (r .m) D words w k (omega arith) m64))
-        (independent-no (seats r t) (bundle D t) (λ e. d (here ∙ worth-word (r .m) D words w t (omega arith) (seats r t) ∙ e ∙ sym (size-word (r .m) D words w t (omega arith) m64) ∙ sym count)))
+        lowest-at n (λ t. independent (M t) (bundle D t)) t l
+        (λ k b. independent-yes (M k) (bundle D k) (sym (worth-word m D words w k (omega arith) (M k)) ∙ h .at k b ∙ size-word m D words w k (omega arith) m64))
+        (independent-no (M t) (bundle D t) (λ e. d (here ∙ worth-word m D words w t (omega arith) (M t) ∙ e ∙ sym (size-word m D words w t (omega arith) m64) ∙ sym count)))
 
-  pub indep-done : r .m ≤ 64 → r .n ≤ 12 → r .n ≤ t → (D : ℕ → ℕ) → Words (r .m) D words → r .n ≡ dependentAt r D
+  pub indep-done : m ≤ 64 → n ≤ 12 → n ≤ t → (D : ℕ → ℕ) → Bundles m D words → n ≡ dependentAt n M D
   unfolding dependentAt
   indep-done m64 n12 g D w =
-      lowest-none (r .n) (λ t. independent (seats r t) (bundle D t))
-      (λ k b. independent-yes (seats r k) (bundle D k) (sym (worth-word (r .m) D words w k (omega arith) (seats r k)) ∙ h .at k (omega arith) ∙ size-word (r .m) D words w k (omega arith) m64))
+      lowest-none n (λ t. independent (M t) (bundle D t))
+      (λ k b. independent-yes (M k) (bundle D k) (sym (worth-word m D words w k (omega arith) (M k)) ∙ h .at k (omega arith) ∙ size-word m D words w k (omega arith) m64))
 
 -- ---- the number of given instruments
 
@@ -79,7 +80,7 @@ pub count-word-le : (words : List ℕ) (t c : ℕ) → c ≡ size 64 (bit (getD 
 unfolding counted
 count-word-le words t c e = subst (λ (x : ℕ). x ≤ 64) (sym e) (counted-le words t)
 
-pub count-done : (words : List ℕ) (n t count : ℕ) → n ≤ 12 → t ≤ n → n ≤ t → count ≡ countedTo words t → (m : ℕ) (D : ℕ → ℕ) → m ≤ 64 → Words m D words → count ≡ size m (held n D)
+pub count-done : (words : List ℕ) (n t count : ℕ) → n ≤ 12 → t ≤ n → n ≤ t → count ≡ countedTo words t → (m : ℕ) (D : ℕ → ℕ) → m ≤ 64 → Bundles m D words → count ≡ size m (held n D)
 unfolding countedTo
 count-done words n t count n12 l g e m D m64 w =
     let same : t ≡ n = omega arith in
@@ -98,27 +99,30 @@ count-done words n t count n12 l g e m D m64 w =
 -- ---- the bound
 
 -- the instruments outside a set, and what it is worth to each of the first t teams
-unfoldable pub boundTo : Reading → ℕ → ℕ → ℕ
-boundTo r T t = size (r .m) (complement (bit T)) + sum t (λ t. worth (seats r t) (bit T))
+unfoldable pub boundTo : {m : ℕ} → (ℕ → Matroid m) → (T t : ℕ) → ℕ
+boundTo {m} M T t = size m (complement (bit T)) + sum t (λ t. worth (M t) (bit T))
 
-pub bound-none : (r : Reading) (T k : ℕ) → k ≡ size (r .m) (complement (bit T)) → k ≡ boundTo r T 0
-unfolding boundTo
-bound-none r T k e = omega arith
-
-module _ (r : Reading) (T t : ℕ) where
-  pub bound-more : (team : Team) (sum v : ℕ) → sum ≡ boundTo r T t → team ≡ teamAt (r .teams) (r .n) t → v ≡ worth (matroidOf (r .m) team) (bit T) → sum + v ≡ boundTo r T (t + 1)
+module _ {m : ℕ} (M : ℕ → Matroid m) (T : ℕ) where
+  pub bound-none : (k : ℕ) → k ≡ size m (complement (bit T)) → k ≡ boundTo M T 0
   unfolding boundTo
-  bound-more team sum v e is-team is-v =
-      let here : v ≡ worth (seats r t) (bit T) = is-v ∙ ap (λ (x : Team). worth (matroidOf (r .m) x) (bit T)) is-team in
-      rw add-one (omega arith)
+  bound-none k e = omega arith
 
-  pub bound-done : (k : ℕ) → t ≤ r .n → r .n ≤ t → k ≡ boundTo r T t → k ≡ boundOf r T
+  bound-le : m ≤ 64 → (t : ℕ) → boundTo M T t ≤ 64 + 64 * t
+  unfolding boundTo
+  bound-le m64 zero = let a = size-le m (complement (bit T)) in omega arith
+  bound-le m64 (suc t) = let below = bound-le m64 t in let here = worth-small (M t) (bit T) in omega arith
+
+  module _ (t : ℕ) (N : Matroid m) (is-N : _≡_ {A = Matroid m} N (M t)) (sum v : ℕ) (is-sum : sum ≡ boundTo M T t) (is-v : v ≡ worth N (bit T)) where
+    pub bound-more : sum + v ≡ boundTo M T (t + 1)
+    unfolding boundTo
+    bound-more = let here = is-v ∙ ap (λ (x : Matroid m). worth x (bit T)) is-N in rw add-one (omega arith)
+
+    -- the sum stays small
+    pub bound-small : m ≤ 64 → sum + v ≤ 128 + 64 * t
+    bound-small m64 = let a = bound-le m64 t in let w = worth-small N (bit T) in omega arith
+
+  pub bound-done : (n t k : ℕ) → t ≤ n → n ≤ t → k ≡ boundTo M T t → k ≡ boundOf n M T
   unfolding boundTo boundOf
-  bound-done k l g e =
-      let same : t ≡ r .n = omega arith in
-      e ∙ ap (λ (x : ℕ). size (r .m) (complement (bit T)) + sum x (λ t. worth (seats r t) (bit T))) same
-
-pub bound-le : (r : Reading) (T t : ℕ) → r .m ≤ 64 → boundTo r T t ≤ 64 + 64 * t
-unfolding boundTo
-bound-le r T zero m64 = let a = size-le (r .m) (complement (bit T)) in omega arith
-bound-le r T (suc t) m64 = let below = bound-le r T t m64 in let here = worth-small (seats r t) (bit T) in omega arith
+  bound-done n t k l g e =
+      let same : t ≡ n = omega arith in
+      e ∙ ap (λ (x : ℕ). size m (complement (bit T)) + sum x (λ t. worth (M t) (bit T))) same

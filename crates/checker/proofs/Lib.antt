@@ -5,3 +5,4 @@ pub mod Shared
 pub mod Verdicts
 pub mod Acceptance
 pub mod Answers
+pub mod Table

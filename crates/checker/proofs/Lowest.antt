@@ -4,29 +4,29 @@ use mathlib.Core.Path.{_≡_, refl, sym, ap, ap₂, _∙_}
 use mathlib.Core.Bool.{Bool, true, false, _&&_, cond, false≢true, and-false}
 use native.Mathlib.Omega.{arith}
 use native.Mathlib.Decide.{ℕ-discrete}
-use Rattle.checker.specs.Tests.{every, lowest}
+use Rattle.checker.specs.Tests.{every, lowestFailing}
 
 -- the first failure is the lowest
-pub lowest-at : (n : ℕ) (test : ℕ → Bool) (t : ℕ) → t < n → ((k : ℕ) → k < t → test k ≡ true) → test t ≡ false → t ≡ lowest n test
-unfolding lowest
+pub lowest-at : (n : ℕ) (test : ℕ → Bool) (t : ℕ) → t < n → ((k : ℕ) → k < t → test k ≡ true) → test t ≡ false → t ≡ lowestFailing n test
+unfolding lowestFailing
 lowest-at zero test t l before here = absurd (omega arith)
 lowest-at (suc n) test zero l before here = rw here refl
 lowest-at (suc n) test (suc t) l before here =
     rw (before 0 (omega arith)) (ap suc (lowest-at n (λ k. test (suc k)) t (omega arith) (λ k b. before (suc k) (omega arith)) here))
 
-pub lowest-none : (n : ℕ) (test : ℕ → Bool) → ((k : ℕ) → k < n → test k ≡ true) → n ≡ lowest n test
-unfolding lowest
+pub lowest-none : (n : ℕ) (test : ℕ → Bool) → ((k : ℕ) → k < n → test k ≡ true) → n ≡ lowestFailing n test
+unfolding lowestFailing
 lowest-none zero test all = refl
 lowest-none (suc n) test all = rw (all 0 (omega arith)) (ap suc (lowest-none n (λ k. test (suc k)) (λ k b. all (suc k) (omega arith))))
 
 -- where none below n is the lowest, all pass
-pub lowest-all : (n : ℕ) (test : ℕ → Bool) → n ≤ lowest n test → (k : ℕ) → k < n → test k ≡ true
-unfolding lowest
+pub lowest-all : (n : ℕ) (test : ℕ → Bool) → n ≤ lowestFailing n test → (k : ℕ) → k < n → test k ≡ true
+unfolding lowestFailing
 lowest-all zero test h k l = absurd (omega arith)
-lowest-all (suc n) test h k l = go (test 0) refl h k l (λ (g : n ≤ lowest n (λ t. test (suc t))). lowest-all n (λ t. test (suc t)) g)
+lowest-all (suc n) test h k l = go (test 0) refl h k l (λ (g : n ≤ lowestFailing n (λ t. test (suc t))). lowest-all n (λ t. test (suc t)) g)
   where
-    go : (b : Bool) → test 0 ≡ b → suc n ≤ cond b (suc (lowest n (λ t. test (suc t)))) 0 → (k : ℕ) → k < suc n
-        → (n ≤ lowest n (λ t. test (suc t)) → (k : ℕ) → k < n → test (suc k) ≡ true) → test k ≡ true
+    go : (b : Bool) → test 0 ≡ b → suc n ≤ cond b (suc (lowestFailing n (λ t. test (suc t)))) 0 → (k : ℕ) → k < suc n
+        → (n ≤ lowestFailing n (λ t. test (suc t)) → (k : ℕ) → k < n → test (suc k) ≡ true) → test k ≡ true
     go true e h zero l rest = e
     go true e h (suc k) l rest = rest (omega arith) k (omega arith)
     go false e h k l rest = absurd (omega arith)

@@ -11,15 +11,14 @@ use lib.Dec.{T, eqb, leb, ltb}
 use lib.ListN.{length, getD, take, drop, length-take, length-drop}
 use lib.Seq.{getD-take, getD-drop}
 use Rattle.matroid.specs.Set.{complement, size}
-use Rattle.matroid.specs.Matroid.{Matroid, worth, worth-same}
+use Rattle.matroid.specs.Matroid.{Matroid, worth}
 use Rattle.matroid.specs.Division.{bundle}
+use Rattle.matroid.proofs.Rank.{worth-same}
 use Rattle.sets.specs.Bits.{bit}
-use Rattle.plan.specs.declared.Reading.{Reading}
-use Rattle.plan.specs.declared.Team.{Team}
-use Rattle.kinds.specs.Teams.{matroidOf, teamAt, seats}
+use Rattle.sets.specs.Bundles.{Bundles}
 use Rattle.sheet.specs.Layout.{shareStart}
 use Rattle.sheet.specs.Fields.{wordAt, holderAt, shareAt, setAt, partAt}
-use Rattle.sheet.specs.Named.{named, Words}
+use Rattle.sheet.specs.Named.{named}
 use Rattle.checker.specs.Rules.{partsHold, shareHolds, wrongShareAt, shortAt}
 use Rattle.checker.proofs.Lowest.{lowest-at, lowest-none, every-true, every-false, every-same}
 use Rattle.checker.proofs.Bundles.{counted, worth-word, size-word}
@@ -37,13 +36,13 @@ module _ {m : ℕ} (M : Matroid m) (share : ℕ) (words : List ℕ) (p : ℕ) (h
   pub reached-next : (v : ℕ) → v ≡ worth M (bit (getD words p 0)) → share ≤ v → Reached M share words (p + 1)
   reached-next v is-v l = record { at = below-more (λ k. share ≤ worth M (bit (getD words k 0))) p (h .at) (omega arith) }
 
-  pub reached-stop : (n v : ℕ) → n ≤ 12 → p < n → v ≡ worth M (bit (getD words p 0)) → v < share → (C : ℕ → ℕ) → Words m C words → false ≡ partsHold M n share C
+  pub reached-stop : (n v : ℕ) → n ≤ 12 → p < n → v ≡ worth M (bit (getD words p 0)) → v < share → (C : ℕ → ℕ) → Bundles m C words → false ≡ partsHold M n share C
   unfolding partsHold
   reached-stop n v n12 l is-v less C w =
       let e = worth-word m C words w p (omega arith) M in
       sym (every-false n (λ p. leb share (worth M (bundle C p))) p l (lt-leb share (worth M (bundle C p)) (omega arith)))
 
-  pub reached-done : (n : ℕ) → n ≤ 12 → n ≤ p → (C : ℕ → ℕ) → Words m C words → true ≡ partsHold M n share C
+  pub reached-done : (n : ℕ) → n ≤ 12 → n ≤ p → (C : ℕ → ℕ) → Bundles m C words → true ≡ partsHold M n share C
   unfolding partsHold
   reached-done n n12 g C w =
       sym (every-true n (λ p. leb share (worth M (bundle C p)))
@@ -81,43 +80,40 @@ pub stretch-long : (sheet : List ℕ) (m start : ℕ) → start + 3 * m ≤ leng
 stretch-long sheet m start l = simp (length-take, length-drop) (omega arith)
 
 -- the shares of the first t teams hold
-pub record Shown (r : Reading) (sheet : List ℕ) (t : ℕ) : Type 0 where
-  pub at : (k : ℕ) → k < t → shareHolds (seats r k) (r .n) (shareAt (r .m) sheet k) (setAt (r .m) sheet k) (partAt (r .m) sheet k) ≡ true
+pub record Shown {m : ℕ} (n : ℕ) (M : ℕ → Matroid m) (sheet : List ℕ) (t : ℕ) : Type 0 where
+  pub at : (k : ℕ) → k < t → shareHolds (M k) n (shareAt m sheet k) (setAt m sheet k) (partAt m sheet k) ≡ true
 
-pub shown-none : (r : Reading) (sheet : List ℕ) → Shown r sheet 0
-shown-none r sheet = record { at = λ k l. absurd (omega arith) }
+pub shown-none : {m : ℕ} (n : ℕ) (M : ℕ → Matroid m) (sheet : List ℕ) → Shown n M sheet 0
+shown-none n M sheet = record { at = λ k l. absurd (omega arith) }
 
-module _ (r : Reading) (sheet : List ℕ) (t : ℕ) (h : Shown r sheet t) where
+module _ (m n : ℕ) (M : ℕ → Matroid m) (sheet : List ℕ) (t : ℕ) (h : Shown n M sheet t) where
   -- the test of team t, as the code has it
-  module _ (team : Team) (at set start end : ℕ) (v : Bool) (is-team : team ≡ teamAt (r .teams) (r .n) t) (is-at : at ≡ shareStart (r .m) t) (is-set : set ≡ wordAt sheet (at + 3))
-      (is-start : start ≡ at + 11) (is-end : end ≡ start + 3 * r .m)
-      (is-v : v ≡ shareHolds (matroidOf (r .m) team) (r .n) (getD sheet (at + 2) 0) set (named (take (end - start) (drop start sheet)))) where
-    stretch : (g : ℕ) → g < r .m → named (take (end - start) (drop start sheet)) g ≡ partAt (r .m) sheet t g
+  module _ (N : Matroid m) (is-N : _≡_ {A = Matroid m} N (M t)) (at set start end : ℕ) (v : Bool) (is-at : at ≡ shareStart m t) (is-set : set ≡ wordAt sheet (at + 3)) (is-start : start ≡ at + 11) (is-end : end ≡ start + 3 * m)
+      (is-v : v ≡ shareHolds N n (getD sheet (at + 2) 0) set (named (take (end - start) (drop start sheet)))) where
+    stretch : (g : ℕ) → g < m → named (take (end - start) (drop start sheet)) g ≡ partAt m sheet t g
     stretch g l =
         getD-take (end - start) (drop start sheet) (3 * g + 2) 0 (omega arith)
         ∙ getD-drop start sheet (3 * g + 2) 0
         ∙ ap (λ (x : ℕ). getD sheet x 0) (omega arith)
 
-    here : v ≡ shareHolds (seats r t) (r .n) (shareAt (r .m) sheet t) (setAt (r .m) sheet t) (partAt (r .m) sheet t)
+    here : v ≡ shareHolds (M t) n (shareAt m sheet t) (setAt m sheet t) (partAt m sheet t)
     here =
         is-v
-        ∙ share-agree (matroidOf (r .m) team) (r .n) (getD sheet (at + 2) 0) set (named (take (end - start) (drop start sheet))) (partAt (r .m) sheet t) stretch
-        ∙ ap (λ (x : Team). shareHolds (matroidOf (r .m) x) (r .n) (getD sheet (at + 2) 0) set (partAt (r .m) sheet t)) is-team
-        ∙ ap (λ (x : ℕ). shareHolds (seats r t) (r .n) (getD sheet (at + 2) 0) x (partAt (r .m) sheet t)) is-set
-        ∙ ap (λ (x : ℕ). shareHolds (seats r t) (r .n) (getD sheet (x + 2) 0) (wordAt sheet (x + 3)) (partAt (r .m) sheet t)) is-at
+        ∙ ap (λ (x : Matroid m). shareHolds x n (getD sheet (at + 2) 0) set (named (take (end - start) (drop start sheet)))) is-N
+        ∙ share-agree (M t) n (getD sheet (at + 2) 0) set (named (take (end - start) (drop start sheet))) (partAt m sheet t) stretch
+        ∙ ap (λ (x : ℕ). shareHolds (M t) n (getD sheet (at + 2) 0) x (partAt m sheet t)) is-set
+        ∙ ap (λ (x : ℕ). shareHolds (M t) n (getD sheet (x + 2) 0) (wordAt sheet (x + 3)) (partAt m sheet t)) is-at
 
-    pub shown-next : v ≡ true → Shown r sheet (t + 1)
-    shown-next e = record {
-      at = below-more (λ k. shareHolds (seats r k) (r .n) (shareAt (r .m) sheet k) (setAt (r .m) sheet k) (partAt (r .m) sheet k) ≡ true) t (h .at) (sym here ∙ e);
-    }
+    pub shown-next : v ≡ true → Shown n M sheet (t + 1)
+    shown-next e = record { at = below-more (λ k. shareHolds (M k) n (shareAt m sheet k) (setAt m sheet k) (partAt m sheet k) ≡ true) t (h .at) (sym here ∙ e) }
 
-    pub shown-stop : t < r .n → v ≡ false → t ≡ wrongShareAt r sheet
+    pub shown-stop : t < n → v ≡ false → t ≡ wrongShareAt n M sheet
     unfolding wrongShareAt
-    shown-stop l e = lowest-at (r .n) (λ t. shareHolds (seats r t) (r .n) (shareAt (r .m) sheet t) (setAt (r .m) sheet t) (partAt (r .m) sheet t)) t l (h .at) (sym here ∙ e)
+    shown-stop l e = lowest-at n (λ t. shareHolds (M t) n (shareAt m sheet t) (setAt m sheet t) (partAt m sheet t)) t l (h .at) (sym here ∙ e)
 
-  pub shown-done : r .n ≤ t → r .n ≡ wrongShareAt r sheet
+  pub shown-done : n ≤ t → n ≡ wrongShareAt n M sheet
   unfolding wrongShareAt
-  shown-done g = lowest-none (r .n) (λ t. shareHolds (seats r t) (r .n) (shareAt (r .m) sheet t) (setAt (r .m) sheet t) (partAt (r .m) sheet t)) (λ k b. h .at k (omega arith))
+  shown-done g = lowest-none n (λ t. shareHolds (M t) n (shareAt m sheet t) (setAt m sheet t) (partAt m sheet t)) (λ k b. h .at k (omega arith))
 
 -- ---- what is held
 
@@ -140,7 +136,7 @@ module _ (m n : ℕ) (words sheet : List ℕ) (t : ℕ) (h : Enough m words shee
     pub enough-next : share ≤ c → Enough m words sheet (t + 1)
     enough-next l = let a = stated in let b = count in record { at = below-more (λ k. shareAt m sheet k ≤ counted words k) t (h .at) (omega arith) }
 
-    pub enough-stop : m ≤ 64 → n ≤ 12 → t < n → c < share → Words m (holderAt sheet) words → t ≡ shortAt m n sheet
+    pub enough-stop : m ≤ 64 → n ≤ 12 → t < n → c < share → Bundles m (holderAt sheet) words → t ≡ shortAt m n sheet
     unfolding shortAt
     enough-stop m64 n12 l less w =
         let a = stated in
@@ -150,7 +146,7 @@ module _ (m n : ℕ) (words sheet : List ℕ) (t : ℕ) (h : Enough m words shee
         (λ k b. let s = h .at k b in let e = size-word m (holderAt sheet) words w k (omega arith) m64 in le-leb (shareAt m sheet k) (size m (bundle (holderAt sheet) k)) (omega arith))
         (lt-leb (shareAt m sheet t) (size m (bundle (holderAt sheet) t)) (omega arith))
 
-  pub enough-done : m ≤ 64 → n ≤ 12 → n ≤ t → Words m (holderAt sheet) words → n ≡ shortAt m n sheet
+  pub enough-done : m ≤ 64 → n ≤ 12 → n ≤ t → Bundles m (holderAt sheet) words → n ≡ shortAt m n sheet
   unfolding shortAt
   enough-done m64 n12 g w =
       lowest-none n (λ t. leb (shareAt m sheet t) (size m (bundle (holderAt sheet) t)))

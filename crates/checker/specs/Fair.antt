@@ -9,20 +9,20 @@ use Rattle.matroid.specs.Cuts.{Cuts}
 use Rattle.matroid.specs.Share.{share}
 use Rattle.plan.specs.declared.Reading.{Reading}
 use Rattle.plan.specs.Read.{readPlan}
-use Rattle.kinds.specs.Teams.{seats}
+use Rattle.plan.specs.Teams.{teamMatroid}
 use Rattle.sheet.specs.Fields.{totalAt, holderAt, shareAt}
 
 -- by the reading of a plan
 pub record FairBy (r : Reading) (sheet : List ℕ) : Type 0 where
   -- the total stated is the total of the sheet's division
-  pub total-true : totalAt sheet ≡ total (r .n) (seats r) (holderAt sheet)
+  pub total-true : totalAt sheet ≡ total (r .n) (teamMatroid r) (holderAt sheet)
   -- no division has a larger total
-  pub total-best : (D : ℕ → ℕ) → total (r .n) (seats r) D ≤ totalAt sheet
+  pub total-best : (D : ℕ → ℕ) → total (r .n) (teamMatroid r) D ≤ totalAt sheet
   -- the share stated for each team is its share
-  pub shares-true : (t : ℕ) → t < r .n → shareAt (r .m) sheet t ≡ share (seats r t) (r .n)
+  pub shares-true : (t : ℕ) → t < r .n → shareAt (r .m) sheet t ≡ share (teamMatroid r t) (r .n)
   -- to each team, of any cut of all instruments into n parts, some part is worth no more than what it holds
   pub cut-matched : (t : ℕ) → t < r .n → (C : ℕ → ℕ) → Cuts (r .m) (r .n) C
-      → (p : ℕ) × (p < r .n) × (worth (seats r t) (bundle C p) ≤ worth (seats r t) (bundle (holderAt sheet) t))
+      → (p : ℕ) × (p < r .n) × (worth (teamMatroid r t) (bundle C p) ≤ worth (teamMatroid r t) (bundle (holderAt sheet) t))
 
 abbrev pub Fair : (plan sheet : List ℕ) → Type 0
 Fair plan sheet = FairBy (readPlan plan) sheet

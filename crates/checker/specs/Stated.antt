@@ -9,7 +9,7 @@ use Rattle.matroid.specs.Matroid.{worth}
 use Rattle.matroid.specs.Division.{bundle, held}
 use Rattle.sets.specs.Bits.{bit}
 use Rattle.plan.specs.declared.Reading.{Reading}
-use Rattle.kinds.specs.Teams.{seats}
+use Rattle.plan.specs.Teams.{teamMatroid}
 use Rattle.sheet.specs.Layout.{lengthOf}
 use Rattle.sheet.specs.Fields.{totalAt, holderAt, boundAt, shareAt, setAt, partAt}
 use Rattle.sheet.specs.Formed.{Formed}
@@ -20,13 +20,13 @@ pub record Stated (r : Reading) (sheet : List ℕ) : Type 0 where
   pub long : length sheet ≡ lengthOf (r .m) (r .n)
   pub formed : Formed (r .m) (r .n) sheet
   -- 13: every bundle is independent
-  pub independent : (t : ℕ) → t < r .n → seats r t .Indep (bundle (holderAt sheet) t)
+  pub independent : (t : ℕ) → t < r .n → teamMatroid r t .Indep (bundle (holderAt sheet) t)
   -- 14: the total is what is given, and the bound
   pub given : totalAt sheet ≡ size (r .m) (held (r .n) (holderAt sheet))
-  pub bound : totalAt sheet ≡ size (r .m) (complement (bit (boundAt (r .m) sheet))) + sum (r .n) (λ t. worth (seats r t) (bit (boundAt (r .m) sheet)))
+  pub bound : totalAt sheet ≡ size (r .m) (complement (bit (boundAt (r .m) sheet))) + sum (r .n) (λ t. worth (teamMatroid r t) (bit (boundAt (r .m) sheet)))
   -- 15: every part is worth the share, and the set allows no larger share
-  pub reached : (t : ℕ) → t < r .n → (p : ℕ) → p < r .n → shareAt (r .m) sheet t ≤ worth (seats r t) (bundle (partAt (r .m) sheet t) p)
+  pub reached : (t : ℕ) → t < r .n → (p : ℕ) → p < r .n → shareAt (r .m) sheet t ≤ worth (teamMatroid r t) (bundle (partAt (r .m) sheet t) p)
   pub limited : (t : ℕ) → t < r .n
-      → size (r .m) (complement (bit (setAt (r .m) sheet t))) + r .n * worth (seats r t) (bit (setAt (r .m) sheet t)) < r .n * (shareAt (r .m) sheet t + 1)
+      → size (r .m) (complement (bit (setAt (r .m) sheet t))) + r .n * worth (teamMatroid r t) (bit (setAt (r .m) sheet t)) < r .n * (shareAt (r .m) sheet t + 1)
   -- 16: every team holds its share
   pub enough : (t : ℕ) → t < r .n → shareAt (r .m) sheet t ≤ size (r .m) (bundle (holderAt sheet) t)

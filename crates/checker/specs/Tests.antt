@@ -8,6 +8,6 @@ every zero test = true
 every (suc n) test = every n test && test n
 
 -- the lowest that fails, and n where none does
-unfoldable pub lowest : ℕ → (ℕ → Bool) → ℕ
-lowest zero test = 0
-lowest (suc n) test = cond (test 0) (suc (lowest n (λ t. test (suc t)))) 0
+unfoldable pub lowestFailing : ℕ → (ℕ → Bool) → ℕ
+lowestFailing zero test = 0
+lowestFailing (suc n) test = cond (test 0) (suc (lowestFailing n (λ t. test (suc t)))) 0

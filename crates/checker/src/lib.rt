@@ -5,14 +5,15 @@ ghost use lib.ListN.{length};
 ghost use Rattle.plan.specs.Valid.{Valid};
 ghost use Rattle.sheet.specs.Layout.{lengthOf};
 ghost use Rattle.checker.specs.declared.Verdict.{Verdict};
-ghost use Rattle.checker.specs.Verdict.{numberOf, placeOf, firstBroken};
+ghost use Rattle.checker.specs.Verdict.{verdictNumber, verdictPlace};
+ghost use Rattle.command.specs.Rule.{firstBroken};
 ghost use Rattle.checker.specs.Check.{divisionRules, verdictOf, checkSheet};
 ghost use Rattle.checker.specs.Fair.{Fair};
 ghost use Rattle.checker.specs.Page.{accepts, pageOf};
 use plan::Reading;
 
-pub mod division;
-pub mod shares;
+mod division;
+mod shares;
 
 // What Check answers: a refusal has its number and place.
 pub enum Verdict {
@@ -22,7 +23,7 @@ pub enum Verdict {
 
 // The paper's number of a verdict: a refusal's own, and 0 for acceptance.
 pub fn number(v: Verdict) -> usize
-    ensures { λ r. ⌜ r ≡ numberOf v ⌝ }
+    ensures { λ r. ⌜ r ≡ verdictNumber v ⌝ }
 {
     match v {
         Verdict::Accepted => 0,
@@ -32,7 +33,7 @@ pub fn number(v: Verdict) -> usize
 
 // The place of a refusal, and 0 for acceptance.
 pub fn place(v: Verdict) -> usize
-    ensures { λ r. ⌜ r ≡ placeOf v ⌝ }
+    ensures { λ r. ⌜ r ≡ verdictPlace v ⌝ }
 {
     match v {
         Verdict::Accepted => 0,
@@ -42,28 +43,32 @@ pub fn place(v: Verdict) -> usize
 
 // The rules about the division and the shares, 13 to 16, on a sheet of the right form.
 fn weigh(r: Reading, sheet: &[u8]) -> Verdict
-    requires { ⌜ (r .m ≤ 64) × (r .n ≤ 12) × (lengthOf (r .m) (r .n) ≤ length (now sheet)) ⌝ }
-    ensures { λ v. ⌜ v ≡ firstBroken (divisionRules r (now (sheet .entry))) ⌝ }
+    requires { ⌜ Valid r × (lengthOf (r .m) (r .n) ≤ length (now sheet)) ⌝ }
+    ensures { λ v. ⌜ v ≡ firstBroken Verdict.Accepted (divisionRules r (now (sheet .entry))) ⌝ }
 {
-    let end = 4 + 3 * r.m;
-    let bundles = sheet::words(&sheet[4..end], r.m);
-    let t = division::first_dependent(r, bundles);
-    if t < r.n {
+    let m = r.m;
+    let n = r.n;
+    let valuations = plan::valuations_of(r);
+    let start = sheet::give_start(0);
+    let end = sheet::bound_start(m);
+    let bundles = sheet::words(&sheet[start..end], m);
+    let t = division::first_dependent(valuations, m, n, bundles);
+    if t < n {
         return Verdict::Refused(13, t);
     }
-    let total = sheet::wide(sheet[3]);
-    if total != division::given(bundles, r.n) {
+    let total = sets::wide(sheet[3]);
+    if total != division::given(bundles, n) {
         return Verdict::Refused(14, 0);
     }
-    if total != division::bound(r, sheet::word_at(sheet, end + 1)) {
+    if total != division::bound(valuations, m, n, sheet::word_at(sheet, end + 1)) {
         return Verdict::Refused(14, 0);
     }
-    let t = shares::first_wrong(r, sheet);
-    if t < r.n {
+    let t = shares::first_wrong(valuations, m, n, sheet);
+    if t < n {
         return Verdict::Refused(15, t);
     }
-    let t = shares::first_short(bundles, r.m, r.n, sheet);
-    if t < r.n {
+    let t = shares::first_short(bundles, m, n, sheet);
+    if t < n {
         return Verdict::Refused(16, t);
     }
     Verdict::Accepted

@@ -6,11 +6,11 @@ use Rattle.checker.specs.declared.Verdict.{Verdict}
 use Rattle.checker.specs.declared.Verdict.the-variants as verdict
 
 -- Build's answer: L, or the refusal
-abbrev pub builtNumber : Built → ℕ
-builtNumber (Refused number place) = 65536 * number + place
-builtNumber (Wrote long) = long
+abbrev pub deskBuilt : Built → ℕ
+deskBuilt (Refused number place) = 65536 * number + place
+deskBuilt (Wrote long) = long
 
 -- Check's answer: 0, or the refusal
-abbrev pub verdictNumber : Verdict → ℕ
-verdictNumber verdict.Accepted = 0
-verdictNumber (verdict.Refused number place) = 65536 * number + place
+abbrev pub deskVerdict : Verdict → ℕ
+deskVerdict verdict.Accepted = 0
+deskVerdict (verdict.Refused number place) = 65536 * number + place

@@ -2,14 +2,14 @@
 ghost use mathlib.Core.Path.{_≡_};
 ghost use Rattle.builder.specs.Build.{buildAnswer, Answered};
 ghost use Rattle.checker.specs.Check.{checkSheet};
-ghost use Rattle.desk.specs.Desk.{builtNumber, verdictNumber};
+ghost use Rattle.desk.specs.Desk.{deskBuilt, deskVerdict};
 use builder::Built;
 use checker::Verdict;
 
 // Build: the sheet's length, or 65,536 × the refusal's number + its place.
 #[no_mangle]
 pub extern "C" fn pool_build(plan: &[u8], buffer: &mut [u8]) -> u64
-    ensures answer { λ r. ⌜ r ≡ builtNumber (buildAnswer (now (plan .entry)) (now (buffer .entry))) ⌝ }
+    ensures answer { λ r. ⌜ r ≡ deskBuilt (buildAnswer (now (plan .entry)) (now (buffer .entry))) ⌝ }
     ensures bytes { λ r. ⌜ Answered (now (plan .entry)) (now (buffer .entry)) (now (buffer .exit)) (buildAnswer (now (plan .entry)) (now (buffer .entry))) ⌝ }
 {
     let b = builder::build(plan, buffer);
@@ -22,7 +22,7 @@ pub extern "C" fn pool_build(plan: &[u8], buffer: &mut [u8]) -> u64
 // Check: 0, or 65,536 × the refusal's number + its place.
 #[no_mangle]
 pub extern "C" fn pool_check(plan: &[u8], sheet: &[u8]) -> u64
-    ensures { λ r. ⌜ r ≡ verdictNumber (checkSheet (now (plan .entry)) (now (sheet .entry))) ⌝ }
+    ensures { λ r. ⌜ r ≡ deskVerdict (checkSheet (now (plan .entry)) (now (sheet .entry))) ⌝ }
 {
     let v = checker::check(plan, sheet);
     match v {

@@ -6,10 +6,10 @@ use lines::print;
 
 // Names a team in the GIVE of each instrument; HEAD says how many there are.
 fn give(sheet: &mut [u8; 2642], teams: [u8; 64]) {
-    let m = sheet::wide(sheet[1]);
+    let m = sets::wide(sheet[1]);
     for g in 0..64usize {
         if g < m {
-            sheet[4 + 3 * g + 2] = teams[g];
+            sheet[sheet::give_start(g) + 2] = teams[g];
         }
     }
 }

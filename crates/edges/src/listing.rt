@@ -1,15 +1,15 @@
 // A sheet on one line: the fields of the weekly listing, with semicolons between them, and what Check answers.
 ghost use Prim.Native.Nat.{_<_, _≤_};
 use checker::Verdict;
+use command::decode::byte_at;
 use lines::print;
-use plan::decode::byte_at;
 
 // The instruments that a sheet gives to a team, or 255 for the pool, rising, each after a space.
 fn holdings(sheet: &[u8], m: usize, team: u8)
     requires { ⌜ m ≤ 64 ⌝ }
 {
     for g in 0..m {
-        if byte_at(sheet, 4 + 3 * g + 2) == team {
+        if byte_at(sheet, sheet::give_start(g) + 2) == team {
             print::marked(b" ", g as u64);
         }
     }

@@ -1,17 +1,29 @@
 // The verb `read HEX`: what reading a plan comes to.
+ghost use Prim.Native.Nat.{_<_};
 use lines::print;
 use plan::Reading;
-use plan::Team;
+use team::Team;
 
-// `class=cap`, where the cap is not 0.
-fn cap(class: usize, cap: u8) {
-    if cap != 0 {
-        print::marked(b" ", class as u64);
-        print::marked(b"=", cap as u64);
+// `class=cap`, or `first-last=cap` for classes of one cap.
+fn cap(first: usize, last: usize, cap: u8) {
+    print::marked(b" ", first as u64);
+    if first < last {
+        print::marked(b"-", last as u64);
     }
+    print::marked(b"=", cap as u64);
 }
 
-// `instrument:class`, where the instrument is in a class.
+// Whether the next class has another cap, or there is none.
+fn last(table: [u8; 16], class: usize) -> bool
+    requires { ⌜ class < 16 ⌝ }
+{
+    if class == 15 {
+        return true;
+    }
+    table[class] != table[class + 1]
+}
+
+// `instrument:class`, and nothing where the class is the filler.
 fn put(instrument: usize, class: u8) {
     if class != 255 {
         print::marked(b" ", instrument as u64);
@@ -19,7 +31,7 @@ fn put(instrument: usize, class: u8) {
     }
 }
 
-// `instrument:joint-joint`, where the instrument has a joint.
+// `instrument:joint-joint`, and nothing where both joints are the filler.
 fn span(instrument: usize, first: u8, second: u8) {
     if first != 255 || second != 255 {
         print::marked(b" ", instrument as u64);
@@ -30,8 +42,12 @@ fn span(instrument: usize, first: u8, second: u8) {
 
 // The caps, by class.
 fn caps(table: [u8; 16]) {
+    let mut first: usize = 0;
     for k in 0..16usize {
-        cap(k, table[k]);
+        if last(table, k) {
+            cap(first, k, table[k]);
+            first = k + 1;
+        }
     }
 }
 
@@ -54,7 +70,7 @@ fn kind(byte: u8) {
     match byte {
         2 => print::text(b"; CAPS"),
         3 => print::text(b"; LOOPS"),
-        _ => print::text(b"; NONE"),
+        _ => print::marked(b"; KIND ", byte as u64),
     }
 }
 
@@ -71,16 +87,16 @@ fn team(t: Team) {
     spans(first, second);
 }
 
-// The first n teams.
+// The first n teams, and what stands in the place after them where there is one.
 fn teams(n: usize, table: [Team; 12]) {
     for k in 0..12usize {
-        if k < n {
+        if k <= n {
             team(table[k]);
         }
     }
 }
 
-// `REFUSED number place`, or `m n` and then each team after a semicolon.
+// `REFUSED number place`, or `m n` and then each team, and the place after the last, after a semicolon.
 fn show(r: Reading) {
     if r.refusal != 0 {
         print::refusal(r.refusal, r.place);

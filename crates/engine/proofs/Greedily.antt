@@ -12,27 +12,29 @@ use lib.Seq.{getD-set-same, getD-set-other}
 use borrow.Author.Tests.{lt-ltb, ne-eqb, ltb-false}
 use Rattle.matroid.specs.Taut.{decide-T, T→true, T→false, both, and-left, and-right}
 use Rattle.matroid.specs.Matroid.{Matroid}
-use Rattle.matroid.specs.Chain.{Sound}
 use Rattle.matroid.specs.Division.{bundle}
+use Rattle.matroid.specs.Exchange.{Sound}
 use Rattle.sets.specs.Bits.{bit}
 use Rattle.sets.specs.Lowest.{Lowest}
-use Rattle.plan.specs.declared.Team.{Team}
-use Rattle.plan.specs.Carry.{blankTeam}
-use Rattle.plan.proofs.Lists.{getD-any}
-use Rattle.kinds.specs.Teams.{matroidOf, Grown}
+use Rattle.sets.specs.Bundles.{Bundles}
+use Rattle.sets.specs.Joining.{Grown}
+use Rattle.kinds.specs.declared.Valuation.{Valuation}
+use Rattle.sets.proofs.Lists.{getD-any}
+use Rattle.kinds.specs.Valuations.{matroidOf, blankValuation}
 use Rattle.holding.specs.declared.Holding.{Holding}
-use Rattle.holding.specs.Give.{holderOf, isInstrument, isTeam, gave, withOwner}
-use Rattle.holding.specs.Words.{Bundles, Pool}
-use Rattle.engine.specs.declared.Seats.{Seats}
-use Rattle.engine.specs.Seats.{seatOf, holder, Held}
+use Rattle.holding.specs.Give.{holderOf, isInstrument, isTeam, inPool, gave, withOwner}
+use Rattle.holding.specs.Words.{Pool}
+use Rattle.exchange.specs.declared.Agents.{Agents}
+use Rattle.exchange.specs.Agents.{agentMatroid, holder, Held}
 use Rattle.engine.specs.Greedy.{Offered, Handed}
+use Rattle.exchange.proofs.Words.{pool-word}
 
 -- ---- handed
 
--- an instrument of the pool is given to a seat
-gave-fits : (h : Holding) (g t : ℕ) → g < h .m → g < 64 → t < h .n → t < 255 → holder (h .owner) g ≡ 255 → gave h g t ≡ withOwner h (set (h .owner) g t)
-unfolding gave isInstrument isTeam holderOf
-gave-fits h g t below low seat few pool = rw (lt-ltb g (h .m) below, lt-ltb g 64 low, lt-ltb t (h .n) seat, lt-ltb t 255 few, pool) refl
+-- an instrument of the pool is given to an agent
+gave-fits : (h : Holding) (g t : ℕ) → g < h .m → g < 64 → t < h .n → t < 12 → holder (h .owner) g ≡ 255 → gave h g t ≡ withOwner h (set (h .owner) g t)
+unfolding gave isInstrument isTeam inPool holderOf
+gave-fits h g t below low agent few pool = rw (lt-ltb g (h .m) below, lt-ltb g 64 low, lt-ltb t (h .n) agent, lt-ltb t 12 few, pool, and-false) refl
 
 -- below the least fresh one there is nothing to give
 pub handed-from : (h : Holding) (t fresh low : ℕ) → Offered h t fresh → Lowest fresh low → Handed h t fresh low h
@@ -56,7 +58,7 @@ module _ (h : Holding) (t fresh k : ℕ) (r next : Holding) (o : Offered h t fre
           let (below, pool) = offered in
           let small = o .small in
           let few = o .few in
-          let seat = o .seat in
+          let agent = o .agent in
           let em = s .m in
           let en = s .n in
           gave-fits r k t (omega arith) (omega arith) (omega arith) (omega arith) (s .old k (inl (omega arith)) ∙ pool)
@@ -87,22 +89,22 @@ module _ (h : Holding) (t fresh k : ℕ) (r next : Holding) (o : Offered h t fre
 
 -- ---- round
 
--- Before the turn of seat t: the words of the seats from t on, and of the pool, are those of the holding.
-pub record Turn (s : Seats) (t : ℕ) (h : Holding) (words : List ℕ) (pool : ℕ) : Type 0 where
+-- Before the turn of agent t: the words of the agents from t on, and of the pool, are those of the holding.
+pub record Turn (s : Agents) (t : ℕ) (h : Holding) (words : List ℕ) (pool : ℕ) : Type 0 where
   pub held : Held s h
   pub bundles : (u : ℕ) → t ≤ u → u < 12 → (j : ℕ) → bit (getD words u 0) j ≡ (ltb j (s .m) && eqb (holder (h .owner) j) u)
   pub unheld : (j : ℕ) → bit pool j ≡ (ltb j (s .m) && not (ltb (holder (h .owner) j) (s .n)))
 
-pub turn-first : (s : Seats) (h : Holding) (words : List ℕ) (pool : ℕ) → Held s h → Bundles h (h .m) words → Pool h (h .m) pool → Turn s 0 h words pool
+pub turn-first : (s : Agents) (h : Holding) (words : List ℕ) (pool : ℕ) → Held s h → Bundles (h .m) (holderOf h) words → Pool h pool → Turn s 0 h words pool
 unfolding holderOf
 turn-first s h words pool held b p = record {
   held = held;
   bundles = λ u _ l j. b .at u l j ∙ ap (λ (k : ℕ). ltb j k && eqb (holder (h .owner) j) u) (held .m);
-  unheld = λ j. p .at j ∙ rw (held .m, held .n) refl;
+  unheld = pool-word s h held pool p;
 }
 
-module _ (s : Seats) (t : ℕ) (h : Holding) (words : List ℕ) (pool : ℕ) (turn : Turn s t h words pool) (l : t < s .n) (team d : Team) (is-team : team ≡ getD (s .teams) t d)
-    (larger fresh : ℕ) (grown : Grown (matroidOf (s .m) team) (getD words t 0) pool larger) (is-fresh : (j : ℕ) → bit fresh j ≡ (bit larger j && not (bit (getD words t 0) j))) where
+module _ (s : Agents) (t : ℕ) (h : Holding) (words : List ℕ) (pool : ℕ) (turn : Turn s t h words pool) (l : t < s .n) (v d : Valuation) (is-v : v ≡ getD (s .valuations) t d)
+    (most larger fresh : ℕ) (grown : Grown (matroidOf (s .m) v) (getD words t 0) pool most larger) (is-fresh : (j : ℕ) → bit fresh j ≡ (bit larger j && not (bit (getD words t 0) j))) where
   few : s .n ≤ 12
   few = turn .held .few
 
@@ -127,7 +129,7 @@ module _ (s : Seats) (t : ℕ) (h : Holding) (words : List ℕ) (pool : ℕ) (tu
       let en = turn .held .n in
       let small = turn .held .small in
       record {
-        seat = omega arith;
+        agent = omega arith;
         few = omega arith;
         small = omega arith;
         long = turn .held .owner-long;
@@ -149,16 +151,16 @@ module _ (s : Seats) (t : ℕ) (h : Holding) (words : List ℕ) (pool : ℕ) (tu
     unfolding D D′
     at-other j o = handed .old j (inr o)
 
-    seat-same : matroidOf (s .m) team ≡ seatOf s t
-    seat-same =
-        let long = turn .held .teams-long in
-        ap (matroidOf (s .m)) (is-team ∙ getD-any (s .teams) t d blankTeam (omega arith)) ∙ sym (rw (lt-ltb t (s .n) l) refl)
+    agent-same : matroidOf (s .m) v ≡ agentMatroid s t
+    agent-same =
+        let long = turn .held .valuations-long in
+        ap (matroidOf (s .m)) (is-v ∙ getD-any (s .valuations) t d blankValuation (omega arith))
 
     -- the larger bundle is independent
-    larger-indep : seatOf s t .Indep (bit larger)
+    larger-indep : agentMatroid s t .Indep (bit larger)
     larger-indep =
-        subst (λ (M : Matroid (s .m)). M .Indep (bit (getD words t 0)) → M .Indep (bit larger)) seat-same (grown .indep)
-        (seatOf s t .part (record { at = λ j b x. and-right (ltb j (s .m)) _ (subst T (word j) x) }) (turn .held .sound t l))
+        subst (λ (M : Matroid (s .m)). M .Indep (bit (getD words t 0)) → M .Indep (bit larger)) agent-same (grown .indep)
+        (agentMatroid s t .part (record { at = λ j b x. and-right (ltb j (s .m)) _ (subst T (word j) x) }) (turn .held .sound t l))
 
     -- what t holds now is in it
     in-larger : (j : ℕ) → j < s .m → T (bundle D′ t j) → T (bit larger j)
@@ -168,7 +170,7 @@ module _ (s : Seats) (t : ℕ) (h : Holding) (words : List ℕ) (pool : ℕ) (tu
       | inr o ↦ grown .old j (subst⁻¹ T (word j) (both (ltb j (s .m)) _ (lt→ltb j (s .m) b) (subst (λ (k : ℕ). T (eqb k t)) (at-other j o) x)))
     ]
 
-    -- what another seat holds it held before
+    -- what another agent holds it held before
     in-before : (u j : ℕ) → u ≢ t → T (bundle D′ u j) → T (bundle D u j)
     unfolding D D′
     in-before u j d x = elim (decide-T (bit fresh j)) [
@@ -176,11 +178,11 @@ module _ (s : Seats) (t : ℕ) (h : Holding) (words : List ℕ) (pool : ℕ) (tu
       | inr o ↦ subst (λ (k : ℕ). T (eqb k u)) (at-other j o) x
     ]
 
-    sound-after : Sound (s .n) (seatOf s) D′
+    sound-after : Sound (s .n) (agentMatroid s) D′
     unfolding D D′
     sound-after u b = elim (ℕ-discrete u t) [
-      | yes e ↦ rw e (seatOf s t .part (record { at = in-larger }) larger-indep)
-      | no d ↦ seatOf s u .part (record { at = λ j _ x. in-before u j d x }) (turn .held .sound u b)
+      | yes e ↦ rw e (agentMatroid s t .part (record { at = in-larger }) larger-indep)
+      | no d ↦ agentMatroid s u .part (record { at = λ j _ x. in-before u j d x }) (turn .held .sound u b)
     ]
 
     held-after : Held s after
@@ -190,7 +192,7 @@ module _ (s : Seats) (t : ℕ) (h : Holding) (words : List ℕ) (pool : ℕ) (tu
       n = handed .n ∙ turn .held .n;
       small = turn .held .small;
       few = turn .held .few;
-      teams-long = turn .held .teams-long;
+      valuations-long = turn .held .valuations-long;
       owner-long = handed .long;
       placed = λ j. elim (decide-T (bit fresh j)) [
         | inl f ↦ let e = at-fresh j f in inr (omega arith)

@@ -9,21 +9,23 @@ use native.Mathlib.Decide.{decLt, ℕ-discrete}
 use lib.Dec.{T, eqb, eqb→eq, ltb, ltb→lt, lt→ltb, T-not}
 use lib.ListN.{getD}
 use Rattle.matroid.specs.Taut.{both, and-left, and-right, or-cases, follows₂}
-use Rattle.matroid.specs.Set.{Set, _∪_, _∖_, complement, only, one-eq, one-ne, size, eq→eqb}
-use Rattle.matroid.specs.Sum.{sum, sum-lt}
+use Rattle.matroid.specs.Set.{Set, _∪_, _∖_, complement, only, size}
+use Rattle.matroid.specs.SetLaws.{one-eq, one-ne, eq→eqb}
+use Rattle.matroid.specs.Sum.{sum}
 use Rattle.matroid.specs.Matroid.{worth}
 use Rattle.matroid.specs.Division.{bundle}
-use Rattle.matroid.specs.Closure.{slack-held, slack-gain, slack-edge, levelling}
+use Rattle.matroid.proofs.Sums.{sum-lt}
+use Rattle.matroid.proofs.Certificates.{slack-held, slack-gain, slack-edge, levelling}
 use Rattle.sets.specs.Bits.{bit}
-use Rattle.sets.specs.Below.{none-there, size-under}
+use Rattle.sets.proofs.Below.{none-there, size-under}
 use Rattle.holding.specs.declared.Holding.{Holding}
-use Rattle.engine.specs.declared.Seats.{Seats}
-use Rattle.engine.specs.declared.search.Reached.{Reached}
-use Rattle.engine.specs.Seats.{seatOf, holder, Ready, Held}
-use Rattle.engine.specs.Search.{Outcome}
-use Rattle.engine.specs.Chains.{Advanced}
+use Rattle.exchange.specs.declared.Agents.{Agents}
+use Rattle.exchange.specs.declared.search.Reached.{Reached}
+use Rattle.exchange.specs.Agents.{agentMatroid, holder, Ready, Held}
+use Rattle.exchange.specs.Search.{Outcome}
 use Rattle.engine.specs.Fill.{given}
 use Rattle.engine.specs.Level.{wordSize, FirstShort, Above, Levelled}
+use Rattle.exchange.proofs.Advance.{Advanced}
 use Rattle.engine.proofs.Sizes.{size-after, given-same}
 
 -- the size of a word, as the code has it
@@ -32,11 +34,11 @@ unfolding wordSize
 word-size bundles t r e = e
 
 -- is the size of the bundle
-pub bundle-size : (s : Seats) (owner bundles : List ℕ) → Ready s owner bundles → (t : ℕ) → t < s .n → wordSize bundles t ≡ size (s .m) (bundle (holder owner) t)
+pub bundle-size : (s : Agents) (owner bundles : List ℕ) → Ready s owner bundles → (t : ℕ) → t < s .n → wordSize bundles t ≡ size (s .m) (bundle (holder owner) t)
 unfolding wordSize
 bundle-size s owner bundles ready t l =
     let few = ready .few in
-    ap (size 64) (fun-ext (λ j. ready .words t (omega arith) j ∙ turn (ltb j (s .m)) (eqb (holder owner j) t))) ∙ size-under 64 (s .m) (bundle (holder owner) t) (ready .small)
+    ap (size 64) (fun-ext (λ j. ready .words .at t (omega arith) j ∙ turn (ltb j (s .m)) (eqb (holder owner j) t))) ∙ size-under 64 (s .m) (bundle (holder owner) t) (ready .small)
   where
     turn : (a b : Bool) → (a && b) ≡ (b && a)
     turn true true = refl
@@ -44,7 +46,7 @@ bundle-size s owner bundles ready t l =
     turn false true = refl
     turn false false = refl
 
--- ---- the seats above their targets
+-- ---- the agents above their targets
 
 pub above-none : (bundles targets : List ℕ) → Above bundles targets 0 0
 above-none bundles targets = record { at = λ j. (λ t. absurd (T-not (bit 0 j) (none-there j) t), λ (t, l, _). absurd (omega arith)) }
@@ -77,54 +79,54 @@ module _ (bundles targets : List ℕ) (n r : ℕ) (h : Above bundles targets n r
 
 -- ---- one chain
 
--- what the seats lack of their targets
-pub shortfall : Seats → List ℕ → List ℕ → ℕ
+-- what the agents lack of their targets
+pub shortfall : Agents → List ℕ → List ℕ → ℕ
 shortfall s targets owner = sum (s .n) (λ t. getD targets t 0 - size (s .m) (bundle (holder owner) t))
 
-module _ (s : Seats) (h : Holding) (held : Held s h) (bundles targets : List ℕ) (ready : Ready s (h .owner) bundles) (i only-i rich : ℕ) (li : i < s .n)
+module _ (s : Agents) (h : Holding) (held : Held s h) (bundles targets : List ℕ) (ready : Ready s (h .owner) bundles) (i only-i rich : ℕ) (li : i < s .n)
     (short : wordSize bundles i < getD targets i 0) (is-only : (j : ℕ) → bit only-i j ≡ only i j) (is-rich : Above bundles targets (s .n) rich) (r : Reached) (out : Outcome s (h .owner) only-i rich r) where
   abbrev D : ℕ → ℕ
   D = holder (h .owner)
 
-  -- the short seat is the source
+  -- the short agent is the source
   pub source-only : T (bit only-i i)
   source-only = subst⁻¹ T (is-only i) (eq→eqb i i refl)
 
-  -- seat i is short
+  -- agent i is short
   is-short : size (s .m) (bundle D i) < getD targets i 0
   is-short = let e = bundle-size s (h .owner) bundles ready i li in omega arith
 
-  -- a target is held by a seat above its own
-  rich-seat : (g : ℕ) → T (bit rich g) → (g < s .m) × (D g < s .n) × (getD targets (D g) 0 < size (s .m) (bundle D (D g)))
-  rich-seat g t =
+  -- a target is held by an agent above its own
+  rich-agent : (g : ℕ) → T (bit rich g) → (g < s .m) × (D g < s .n) × (getD targets (D g) 0 < size (s .m) (bundle D (D g)))
+  rich-agent g t =
       let (u, l, (more, w)) = is-rich .at g .0 t in
       let few = ready .few in
-      let b = subst T (ready .words u (omega arith) g) w in
+      let b = subst T (ready .words .at u (omega arith) g) w in
       let e = eqb→eq (D g) u (and-right (ltb g (s .m)) _ b) in
       let same = bundle-size s (h .owner) bundles ready u l in
       (ltb→lt g (s .m) (and-left (ltb g (s .m)) _ b), omega arith, subst⁻¹ (λ (x : ℕ). getD targets x 0 < size (s .m) (bundle D x)) e (omega arith))
 
   -- and whoever holds nothing of it is not
-  poor-seat : (g : ℕ) → g < s .m → D g < s .n → T (not (bit rich g)) → size (s .m) (bundle D (D g)) ≤ getD targets (D g) 0
-  poor-seat g l team clear = elim (decLt (getD targets (D g) 0) (size (s .m) (bundle D (D g)))) [
+  poor-agent : (g : ℕ) → g < s .m → D g < s .n → T (not (bit rich g)) → size (s .m) (bundle D (D g)) ≤ getD targets (D g) 0
+  poor-agent g l known clear = elim (decLt (getD targets (D g) 0) (size (s .m) (bundle D (D g)))) [
     | no d ↦ omega arith
     | yes more ↦
         let few = ready .few in
-        let same = bundle-size s (h .owner) bundles ready (D g) team in
-        absurd (T-not (bit rich g) clear (is-rich .at g .1 (D g, team, (omega arith, subst⁻¹ T (ready .words (D g) (omega arith) g) (both (ltb g (s .m)) _ (lt→ltb g (s .m) l) (eq→eqb (D g) (D g) refl))))))
+        let same = bundle-size s (h .owner) bundles ready (D g) known in
+        absurd (T-not (bit rich g) clear (is-rich .at g .1 (D g, known, (omega arith, subst⁻¹ T (ready .words .at (D g) (omega arith) g) (both (ltb g (s .m)) _ (lt→ltb g (s .m) l) (eq→eqb (D g) (D g) refl))))))
   ]
 
   -- where the total is greatest a chain is found
-  pub level-stuck : (k : ℕ) → given s (h .owner) ≡ size (s .m) (complement (bit k)) + sum (s .n) (λ t. worth (seatOf s t) (bit k))
-      → ((t : ℕ) → t < s .n → (R : Set) → s .n * getD targets t 0 ≤ size (s .m) R + s .n * worth (seatOf s t) (complement R)) → r .found ≡ false → ⊥
+  pub level-stuck : (k : ℕ) → given s (h .owner) ≡ size (s .m) (complement (bit k)) + sum (s .n) (λ t. worth (agentMatroid s t) (bit k))
+      → ((t : ℕ) → t < s .n → (R : Set) → s .n * getD targets t 0 ≤ size (s .m) R + s .n * worth (agentMatroid s t) (complement R)) → r .found ≡ false → ⊥
   unfolding given
   level-stuck k full allowed none =
-      levelling (s .n) (seatOf s) D R (held .sound)
-      (λ g x lg lx t e. both (S x) _ (out .closed none g x lg lx (and-left (S g) _ t) e) (slack-edge (s .n) (seatOf s) D (bit k) (held .sound) full g x lg lx (and-right (S g) _ t) e))
+      levelling (s .n) (agentMatroid s) D R (held .sound)
+      (λ g x lg lx t e. both (S x) _ (out .closed none g x lg lx (and-left (S g) _ t) e) (slack-edge (s .n) (agentMatroid s) D (bit k) (held .sound) full g x lg lx (and-right (S g) _ t) e))
       (λ t. getD targets t 0) (λ t l. allowed t l R)
-      (λ g l t. let team = slack-held (s .n) (seatOf s) D (bit k) (held .sound) full g l (and-right (S g) _ t) in (team, poor-seat g l team (out .clear none g (and-left (S g) _ t))))
+      (λ g l t. let known = slack-held (s .n) (agentMatroid s) D (bit k) (held .sound) full g l (and-right (S g) _ t) in (known, poor-agent g l known (out .clear none g (and-left (S g) _ t))))
       i li is-short
-      (λ g l c. both (S g) _ (out .gains none i li source-only g l c) (slack-gain (s .n) (seatOf s) D (bit k) (held .sound) full i g li l c))
+      (λ g l c. both (S g) _ (out .gains none i li source-only g l c) (slack-gain (s .n) (agentMatroid s) D (bit k) (held .sound) full i g li l c))
     where
       S : Set
       S = bit (r .trace .seen)
@@ -133,14 +135,14 @@ module _ (s : Seats) (h : Holding) (held : Held s h) (bundles targets : List ℕ
       R = S ∖ bit k
 
   module _ (found : r .found ≡ true) (after : Holding) (a : Advanced s h only-i (r .end) after) where
-    -- the chain is from seat i to a seat above its target
-    from-i : a .seat ≡ i
-    from-i = eqb→eq (a .seat) i (subst T (is-only (a .seat)) (a .source))
+    -- the chain is from agent i to an agent above its target
+    from-i : a .agent ≡ i
+    from-i = eqb→eq (a .agent) i (subst T (is-only (a .agent)) (a .source))
 
     rich-end : (r .end < s .m) × (D (r .end) < s .n) × (getD targets (D (r .end)) 0 < size (s .m) (bundle D (D (r .end))))
-    rich-end = rich-seat (r .end) (out .found found .2)
+    rich-end = rich-agent (r .end) (out .found found .2)
 
-    -- so as many are given as before, and the seats lack one fewer
+    -- so as many are given as before, and the agents lack one fewer
     pub level-same : given s (after .owner) ≡ given s (h .owner)
     level-same = given-same s h after only-i (r .end) a (rich-end .1)
 
@@ -170,12 +172,12 @@ module _ (s : Seats) (h : Holding) (held : Held s h) (bundles targets : List ℕ
         strict (no d) =
             let c = size-after s h after only-i (r .end) a i in
             let keeps = one-ne (D (r .end)) i d in
-            let gains = one-eq (a .seat) i from-i in
+            let gains = one-eq (a .agent) i from-i in
             let less = is-short in
             omega arith
 
--- no seat is short: the holding is levelled
-pub level-done : (s : Seats) (start h : Holding) (bundles targets : List ℕ) (r : ℕ) → Held s h → Ready s (h .owner) bundles → FirstShort bundles targets (s .n) r → s .n ≤ r
+-- no agent is short: the holding is levelled
+pub level-done : (s : Agents) (start h : Holding) (bundles targets : List ℕ) (r : ℕ) → Held s h → Ready s (h .owner) bundles → FirstShort bundles targets (s .n) r → s .n ≤ r
     → given s (h .owner) ≡ given s (start .owner) → Levelled s start targets h
 level-done s start h bundles targets r held ready f l same = record {
   held = held;

@@ -1,8 +1,3 @@
-pub mod Assign
-pub mod Words
-pub mod Going
-pub mod Following
-pub mod Advance
 pub mod Sizes
 pub mod Greedily
 pub mod Filling

@@ -1,7 +1,7 @@
--- Shares: n seats of one team, filled and levelled.
+-- Shares: n agents of one valuation, filled and levelled.
 use Prim.Native.Nat.{ℕ, zero, _+_, _*_, _/_, _≤_, _<_}
-use mathlib.Core.Path.{_≡_, refl, ap, _∙_, subst, fun-ext}
-use mathlib.Core.Bool.{Bool, true, false, _&&_, not}
+use mathlib.Core.Path.{_≡_, refl, sym, ap, ap₂, _∙_, subst, fun-ext}
+use mathlib.Core.Bool.{Bool, true, false, _&&_, not, and-true, and-false}
 use mathlib.Core.List.{List}
 use native.Mathlib.Omega.{arith}
 use native.Mathlib.Nat.{mul-le-mul-left, div-add-mod', mod-lt}
@@ -9,44 +9,58 @@ use native.Mathlib.Decide.{decLt, decLe, ℕ-discrete}
 use lib.Dec.{eqb→eq, ltb}
 use lib.ListN.{length, getD, set, replicate, length-set, getD-replicate, length-replicate, List·getD-eq-default}
 use lib.Seq.{getD-set-same, getD-set-other}
-use borrow.Author.Tests.{lt-ltb}
-use Rattle.matroid.specs.Set.{Set, _∩_, _∖_, complement, under, size, eq→eqb, Within, size-same, size-twice, within-refl, inter-most, inter-left}
-use Rattle.matroid.specs.Sum.{sum, sum-same, sum-const}
-use Rattle.matroid.specs.Matroid.{Matroid, worth, worth-indep, worth-mono}
-use Rattle.matroid.specs.Division.{bundle, held, weak-duality, sum-bundles}
-use Rattle.matroid.specs.Share.{share, share-most, share-bound}
+use borrow.Author.Tests.{lt-ltb, le-ltb}
+use Rattle.matroid.specs.Set.{Set, _∩_, _∖_, complement, under, size, Within}
+use Rattle.matroid.specs.SetLaws.{eq→eqb, size-same, within-refl, inter-most, inter-left}
+use Rattle.matroid.specs.Sum.{sum}
+use Rattle.matroid.specs.Matroid.{Matroid, worth}
+use Rattle.matroid.specs.Division.{bundle, held}
+use Rattle.matroid.specs.DivisionLaws.{sum-bundles}
+use Rattle.matroid.specs.Share.{share}
+use Rattle.matroid.proofs.Sets.{size-twice}
+use Rattle.matroid.proofs.Sums.{sum-same, sum-const}
+use Rattle.matroid.proofs.Rank.{worth-indep, worth-mono}
+use Rattle.matroid.proofs.Duality.{weak-duality}
+use Rattle.matroid.proofs.Shares.{share-most, share-bound}
 use Rattle.sets.specs.Bits.{bit}
-use Rattle.sets.specs.Below.{size-under}
-use Rattle.plan.specs.declared.Team.{Team}
-use Rattle.plan.specs.Carry.{blankTeam}
-use Rattle.plan.proofs.Lists.{getD-any}
+use Rattle.sets.proofs.Below.{size-under}
+use Rattle.kinds.specs.declared.Valuation.{Valuation}
+use Rattle.sets.proofs.Lists.{getD-any}
 use Rattle.holding.specs.declared.Holding.{Holding}
-use Rattle.holding.specs.Give.{holderOf}
+use Rattle.holding.specs.Give.{holderOf, isInstrument, isTeam, inPool}
 use Rattle.holding.specs.Words.{Pool}
-use Rattle.kinds.specs.Teams.{matroidOf, teamAt}
-use Rattle.engine.specs.declared.Seats.{Seats}
+use Rattle.kinds.specs.Valuations.{matroidOf, matroids, blankValuation}
+use Rattle.exchange.specs.declared.Agents.{Agents}
 use Rattle.engine.specs.declared.share.Shared.{Shared}
-use Rattle.engine.specs.Seats.{seatOf, holder, Held}
-use Rattle.engine.specs.Fill.{Seated, given, Full}
+use Rattle.exchange.specs.Agents.{agentMatroid, holder, Held}
+use Rattle.engine.specs.Fill.{ValidAgents, given, Full}
 use Rattle.engine.specs.Level.{Levellable, Levelled}
 use Rattle.engine.specs.Share.{Counted, Parted, ShareOf}
+use Rattle.exchange.proofs.Words.{team-agent}
 
 -- ---- counting what is given
 
-pub counted : (h : Holding) (all pool rest r : ℕ) → h .m ≤ 64 → ((j : ℕ) → bit all j ≡ under (h .m) j) → Pool h (h .m) pool → ((j : ℕ) → bit rest j ≡ (bit all ∖ bit pool) j) → r ≡ size 64 (bit rest) → Counted h r
-unfolding holderOf
+pub counted : (h : Holding) (all pool rest r : ℕ) → h .m ≤ 64 → ((j : ℕ) → bit all j ≡ under (h .m) j) → Pool h pool → ((j : ℕ) → bit rest j ≡ (bit all ∖ bit pool) j) → r ≡ size 64 (bit rest) → Counted h r
+unfolding isInstrument
 counted h all pool rest r small is-all is-pool is-rest e = record {
-  is = e ∙ ap (size 64) (fun-ext (λ j. is-rest j ∙ step j (ltb j (h .m)) (ltb (holder (h .owner) j) (h .n)) (is-all j) (is-pool .at j))) ∙ size-under 64 (h .m) (λ g. ltb (holder (h .owner) g) (h .n)) small;
+  is = e ∙ ap (size 64) (fun-ext (λ j. is-rest j ∙ step j (inPool h j) (decLt j (h .m)) (is-pool .at j))) ∙ size-under 64 (h .m) (λ g. not (inPool h g)) small;
 }
   where
-    step : (j : ℕ) (a b : Bool) → bit all j ≡ a → bit pool j ≡ (a && not b) → (bit all ∖ bit pool) j ≡ (b && a)
-    step j true true p q = rw (p, q) refl
-    step j true false p q = rw (p, q) refl
-    step j false true p q = rw p refl
-    step j false false p q = rw p refl
+    step : (j : ℕ) (b : Bool) → Dec (j < h .m) → bit pool j ≡ (isInstrument h j && b) → (bit all ∖ bit pool) j ≡ (not b && ltb j (h .m))
+    step j b (yes l) q = rw (is-all j, q, lt-ltb j (h .m) l, lt-ltb j 64 (omega arith)) (sym (and-true (not b)))
+    step j b (no d) q = rw (is-all j, le-ltb j (h .m) (omega arith)) (sym (and-false (not b)))
 
--- it is what the seats hold
-pub given-count : (s : Seats) (h : Holding) (r : ℕ) → Held s h → Counted h r → r ≡ given s (h .owner)
+-- what is not in the pool is with an agent
+pub held-agent : (s : Agents) (h : Holding) → Held s h → (g : ℕ) → not (inPool h g) ≡ ltb (holder (h .owner) g) (s .n)
+unfolding inPool holderOf
+held-agent s h hd g = twice (isTeam h (holder (h .owner) g)) ∙ team-agent s h hd (holder (h .owner) g)
+  where
+    twice : (b : Bool) → not (not b) ≡ b
+    twice true = refl
+    twice false = refl
+
+-- it is what the agents hold
+pub given-count : (s : Agents) (h : Holding) (r : ℕ) → Held s h → Counted h r → r ≡ given s (h .owner)
 unfolding given
 given-count s h r hd c =
     let sums = sum-bundles (s .m) (s .n) (holder (h .owner)) (λ g. true) in
@@ -54,13 +68,13 @@ given-count s h r hd c =
     let each = sum-same (s .n) (λ t. size (s .m) (bundle (holder (h .owner)) t ∩ (λ g. true))) (λ t. size (s .m) (bundle (holder (h .owner)) t))
     (λ t _. size-same (s .m) {A = bundle (holder (h .owner)) t ∩ (λ g. true)} {B = bundle (holder (h .owner)) t} (inter-left (bundle (holder (h .owner)) t) (λ g. true)) (inter-most within-refl (record { at = λ k l t. tt }))) in
     let count = c .is in
-    let same : size (h .m) (λ g. ltb (holder (h .owner) g) (h .n)) ≡ size (s .m) (λ g. ltb (holder (h .owner) g) (s .n)) = rw (hd .m, hd .n) refl in
+    let same : size (h .m) (λ g. not (inPool h g)) ≡ size (s .m) (λ g. ltb (holder (h .owner) g) (s .n)) = ap₂ size (hd .m) (fun-ext (held-agent s h hd)) in
     omega arith
 
 -- ---- the cut
 
 pub parted-none : (owner r : List ℕ) (n : ℕ) → Parted owner n 0 r
-parted-none owner r n = record { team = λ g l. absurd (omega arith); pool = λ g l. absurd (omega arith) }
+parted-none owner r n = record { agent = λ g l. absurd (omega arith); pool = λ g l. absurd (omega arith) }
 
 -- the table so far: zeros from k on
 pub record Parting (owner : List ℕ) (n k : ℕ) (r : List ℕ) : Type 0 where
@@ -76,13 +90,13 @@ parting-none owner n = record {
 }
 
 module _ (owner : List ℕ) (n k : ℕ) (r next : List ℕ) (h : Parting owner n k r) (l : k < 64) where
-  pub parting-team : getD owner k 0 < n → next ≡ set r k (getD owner k 0) → Parting owner n (k + 1) next
-  parting-team b is = rw is (record {
+  pub parting-agent : getD owner k 0 < n → next ≡ set r k (getD owner k 0) → Parting owner n (k + 1) next
+  parting-agent b is = rw is (record {
     long = length-set r k (getD owner k 0) ∙ h .long;
     is = record {
-      team = λ g c t. elim (ℕ-discrete g k) [
+      agent = λ g c t. elim (ℕ-discrete g k) [
         | yes e ↦ let wide = h .long in rw e (getD-set-same r k (getD owner k 0) 0 (omega arith))
-        | no d ↦ getD-set-other r k g (getD owner k 0) 0 d ∙ h .is .team g (omega arith) t
+        | no d ↦ getD-set-other r k g (getD owner k 0) 0 d ∙ h .is .agent g (omega arith) t
       ];
       pool = λ g c t. elim (ℕ-discrete g k) [
         | yes e ↦ let same = ap (λ (x : ℕ). getD owner x 0) e in absurd (omega arith)
@@ -96,59 +110,59 @@ module _ (owner : List ℕ) (n k : ℕ) (r next : List ℕ) (h : Parting owner n
   parting-pool b is = rw is (record {
     long = h .long;
     is = record {
-      team = λ g c t. elim (ℕ-discrete g k) [ yes e ↦ let same = ap (λ (x : ℕ). getD owner x 0) e in absurd (omega arith) | no d ↦ h .is .team g (omega arith) t ];
+      agent = λ g c t. elim (ℕ-discrete g k) [ yes e ↦ let same = ap (λ (x : ℕ). getD owner x 0) e in absurd (omega arith) | no d ↦ h .is .agent g (omega arith) t ];
       pool = λ g c t. elim (ℕ-discrete g k) [ yes e ↦ rw e (h .rest k (omega arith)) | no d ↦ h .is .pool g (omega arith) t ];
     };
     rest = λ g c. h .rest g (omega arith);
   })
 
--- ---- n seats of one team
+-- ---- n agents of one valuation
 
--- every seat's matroid is the team's
-alike : (m n : ℕ) (team : Team) (t : ℕ) → t < n → n ≤ 12 → matroidOf m (teamAt (replicate 12 team) n t) ≡ matroidOf m team
-alike m n team t l few = ap (matroidOf m) (rw (lt-ltb t n l) (getD-replicate 12 t team blankTeam (omega arith)))
+-- every agent's matroid is the valuation's
+alike : (m n : ℕ) (v : Valuation) (t : ℕ) → t < n → n ≤ 12 → matroids m (replicate 12 v) t ≡ matroidOf m v
+alike m n v t l few = ap (matroidOf m) (getD-replicate 12 t v blankValuation (omega arith))
 
-module _ (m n : ℕ) (team : Team) (small : m ≤ 64) (some : 1 ≤ n) (few : n ≤ 12) where
-  abbrev seatsOf : Seats
-  seatsOf = record { m = m; n = n; teams = replicate 12 team }
+module _ (m n : ℕ) (v : Valuation) (small : m ≤ 64) (some : 1 ≤ n) (few : n ≤ 12) where
+  abbrev agentsOf : Agents
+  agentsOf = record { m = m; n = n; valuations = replicate 12 v }
 
   abbrev M : Matroid m
-  M = matroidOf m team
+  M = matroidOf m v
 
-  pub seated : Seated seatsOf
-  seated = record { small = small; some = some; few = few; teams-long = length-replicate 12 team }
+  pub valid : ValidAgents agentsOf
+  valid = record { small = small; some = some; few = few; valuations-long = length-replicate 12 v }
 
-  -- sums over the seats
-  sum-worth : (K : Set) → sum n (λ t. worth (seatOf seatsOf t) K) ≡ n * worth M K
-  sum-worth K = sum-same n (λ t. worth (seatOf seatsOf t) K) (λ t. worth M K) (λ t l. ap (λ (X : Matroid m). worth X K) (alike m n team t l few)) ∙ sum-const n (worth M K)
+  -- sums over the agents
+  sum-worth : (K : Set) → sum n (λ t. worth (agentMatroid agentsOf t) K) ≡ n * worth M K
+  sum-worth K = sum-same n (λ t. worth (agentMatroid agentsOf t) K) (λ t. worth M K) (λ t l. ap (λ (X : Matroid m). worth X K) (alike m n v t l few)) ∙ sum-const n (worth M K)
 
   -- what is given is bounded by every set
-  given-bound : (h : Holding) (R : Set) → Held seatsOf h → given seatsOf (h .owner) ≤ size m R + n * worth M (complement R)
+  given-bound : (h : Holding) (R : Set) → Held agentsOf h → given agentsOf (h .owner) ≤ size m R + n * worth M (complement R)
   unfolding given
   given-bound h R hd =
-      let dual = weak-duality n (seatOf seatsOf) (holder (h .owner)) (complement R) in
+      let dual = weak-duality n (agentMatroid agentsOf) (holder (h .owner)) (complement R) in
       let twice = size-twice m R in
       let worths = sum-worth (complement R) in
-      let sizes = sum-same n (λ t. worth (seatOf seatsOf t) (bundle (holder (h .owner)) t)) (λ t. size m (bundle (holder (h .owner)) t)) (λ t l. worth-indep (seatOf seatsOf t) (bundle (holder (h .owner)) t) (hd .sound t l)) in
+      let sizes = sum-same n (λ t. worth (agentMatroid agentsOf t) (bundle (holder (h .owner)) t)) (λ t. size m (bundle (holder (h .owner)) t)) (λ t l. worth-indep (agentMatroid agentsOf t) (bundle (holder (h .owner)) t) (hd .sound t l)) in
       omega arith
 
-  -- the quotient of what is given can be every seat's target
-  pub share-levellable : (h : Holding) (k s : ℕ) (targets : List ℕ) → Full seatsOf h k → s ≡ given seatsOf (h .owner) / n → targets ≡ replicate 12 s → Levellable seatsOf h targets
+  -- the quotient of what is given can be every agent's target
+  pub share-levellable : (h : Holding) (k s : ℕ) (targets : List ℕ) → Full agentsOf h k → s ≡ given agentsOf (h .owner) / n → targets ≡ replicate 12 s → Levellable agentsOf h targets
   share-levellable h k s targets f e is = record {
     bound = k;
     full = f;
     allowed = λ t l R.
         let bound = given-bound h R (f .held) in
-        let div = div-add-mod' (given seatsOf (h .owner)) n in
+        let div = div-add-mod' (given agentsOf (h .owner)) n in
         let target : getD targets t 0 ≡ s = ap (λ (x : List ℕ). getD x t 0) is ∙ getD-replicate 12 t s 0 (omega arith) in
         let times = ap (λ (x : ℕ). n * x) (target ∙ e) in
-        let same = ap (λ (X : Matroid m). n * worth X (complement R)) (alike m n team t l few) in
+        let same = ap (λ (X : Matroid m). n * worth X (complement R)) (alike m n v t l few) in
         omega arith;
   }
 
   -- so it is the share
-  module _ (f h : Holding) (k s : ℕ) (targets part : List ℕ) (full : Full seatsOf f k) (e : s ≡ given seatsOf (f .owner) / n) (is : targets ≡ replicate 12 s)
-      (levelled : Levelled seatsOf f targets h) (parted : Parted (h .owner) n 64 part) where
+  module _ (f h : Holding) (k s : ℕ) (targets part : List ℕ) (full : Full agentsOf f k) (e : s ≡ given agentsOf (f .owner) / n) (is : targets ≡ replicate 12 s)
+      (levelled : Levelled agentsOf f targets h) (parted : Parted (h .owner) n 64 part) where
     abbrev cutOf : ℕ → ℕ
     cutOf g = getD part g 0
 
@@ -157,24 +171,24 @@ module _ (m n : ℕ) (team : Team) (small : m ≤ 64) (some : 1 ≤ n) (few : n 
 
     below : (g : ℕ) → g < m → cutOf g < n
     below g l = elim (decLt (getD (h .owner) g 0) n) [
-      | yes b ↦ let same = parted .team g (omega arith) b in omega arith
+      | yes b ↦ let same = parted .agent g (omega arith) b in omega arith
       | no d ↦ let zero = parted .pool g (omega arith) (omega arith) in omega arith
     ]
 
-    -- a seat's bundle lies in its part
+    -- an agent's bundle lies in its part
     in-part : (t : ℕ) → t < n → Within m (bundle (holder (h .owner)) t) (bundle cutOf t)
     in-part t l = record {
       at = λ g b x.
           let own = owner-at g b in
           let o = eqb→eq (holder (h .owner) g) t x in
-          eq→eqb (cutOf g) t (parted .team g (omega arith) (omega arith) ∙ own ∙ o);
+          eq→eqb (cutOf g) t (parted .agent g (omega arith) (omega arith) ∙ own ∙ o);
     }
 
     fair : (t : ℕ) → t < n → s ≤ worth M (bundle cutOf t)
     fair t l =
         let target : getD targets t 0 ≡ s = ap (λ (x : List ℕ). getD x t 0) is ∙ getD-replicate 12 t s 0 (omega arith) in
         let reached = levelled .reached t l in
-        let indep = subst (λ (X : Matroid m). X .Indep (bundle (holder (h .owner)) t)) (alike m n team t l few) (levelled .held .sound t l) in
+        let indep = subst (λ (X : Matroid m). X .Indep (bundle (holder (h .owner)) t)) (alike m n v t l few) (levelled .held .sound t l) in
         let same = worth-indep M (bundle (holder (h .owner)) t) indep in
         let more = worth-mono M (in-part t l) in
         omega arith
@@ -183,8 +197,8 @@ module _ (m n : ℕ) (team : Team) (small : m ≤ 64) (some : 1 ≤ n) (few : n 
     tight =
         let cert = full .full in
         let worths = sum-worth (bit k) in
-        let div = div-add-mod' (given seatsOf (f .owner)) n in
-        let rest = mod-lt (given seatsOf (f .owner)) {m = n} (omega arith) in
+        let div = div-add-mod' (given agentsOf (f .owner)) n in
+        let rest = mod-lt (given agentsOf (f .owner)) {m = n} (omega arith) in
         let times = ap (λ (x : ℕ). n * x) e in
         omega arith
 
@@ -202,7 +216,7 @@ module _ (m n : ℕ) (team : Team) (small : m ≤ 64) (some : 1 ≤ n) (few : n 
             absurd (omega arith)
         go (no d) = let m′ = most in omega arith
 
-    pub shares : (r : Shared) → r .share ≡ s → r .bound ≡ k → r .part ≡ part → ShareOf m n team r
+    pub shares : (r : Shared) → r .share ≡ s → r .bound ≡ k → r .part ≡ part → ShareOf m n v r
     shares r es ek ep = record {
       is = es ∙ is-share;
       low = λ g t. full .low g (rw ek at t);

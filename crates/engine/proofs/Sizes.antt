@@ -5,15 +5,19 @@ use mathlib.Core.List.{List}
 use native.Mathlib.Omega.{arith}
 use native.Mathlib.Decide.{ℕ-discrete}
 use lib.Dec.{eqb}
-use Rattle.matroid.specs.Set.{complement, one, one-eq, one-ne, size, size-le, none, size-none}
-use Rattle.matroid.specs.Sum.{sum, sum-add, sum-same}
-use Rattle.matroid.specs.Carry.{carry-size}
-use Rattle.matroid.specs.Division.{bundle, sum-bundles-le, sum-bundles-split}
+use Rattle.matroid.specs.Set.{complement, one, size, none}
+use Rattle.matroid.specs.SetLaws.{one-eq, one-ne, size-none}
+use Rattle.matroid.specs.Sum.{sum}
+use Rattle.matroid.specs.Division.{bundle}
+use Rattle.matroid.proofs.Sets.{size-le}
+use Rattle.matroid.proofs.Sums.{sum-add, sum-same}
+use Rattle.matroid.proofs.Duality.{sum-bundles-le, sum-bundles-split}
+use Rattle.matroid.proofs.Carrying.{carry-size}
 use Rattle.holding.specs.declared.Holding.{Holding}
-use Rattle.engine.specs.declared.Seats.{Seats}
-use Rattle.engine.specs.Seats.{holder}
-use Rattle.engine.specs.Chains.{Advanced}
+use Rattle.exchange.specs.declared.Agents.{Agents}
+use Rattle.exchange.specs.Agents.{holder}
 use Rattle.engine.specs.Fill.{given}
+use Rattle.exchange.proofs.Advance.{Advanced}
 
 -- among the numbers below n, i is one, and none where it is not below n
 sum-out : (n i : ℕ) → n ≤ i → sum n (λ t. one (eqb i t)) ≡ 0
@@ -28,8 +32,8 @@ sum-in (suc n) i l = go (λ (b : i < n). sum-in n i b) (ℕ-discrete i n)
     go rest (yes e) = let below = sum-out n i (omega arith) in let here = one-eq i n e in omega arith
     go rest (no d) = let below = rest (omega arith) in let here = one-ne i n d in omega arith
 
--- the seats hold at most all instruments
-pub given-le : (s : Seats) (owner : List ℕ) → given s owner ≤ s .m
+-- the agents hold at most all instruments
+pub given-le : (s : Agents) (owner : List ℕ) → given s owner ≤ s .m
 unfolding given
 given-le s owner =
     let split = sum-bundles-split (s .m) (s .n) (holder owner) none in
@@ -39,29 +43,29 @@ given-le s owner =
     let all = size-le (s .m) (complement none) in
     omega arith
 
-module _ (s : Seats) (h after : Holding) (sources end : ℕ) (a : Advanced s h sources end after) where
+module _ (s : Agents) (h after : Holding) (sources end : ℕ) (a : Advanced s h sources end after) where
   abbrev D : ℕ → ℕ
   D = holder (h .owner)
 
-  -- the source seat has one more, and who held the end has one fewer
-  pub size-after : (t : ℕ) → size (s .m) (bundle (holder (after .owner)) t) + one (eqb (D end) t) ≡ size (s .m) (bundle D t) + one (eqb (a .seat) t)
+  -- the source agent has one more, and who held the end has one fewer
+  pub size-after : (t : ℕ) → size (s .m) (bundle (holder (after .owner)) t) + one (eqb (D end) t) ≡ size (s .m) (bundle D t) + one (eqb (a .agent) t)
   size-after t =
-      let c = carry-size (s .m) D (a .seat) (a .first) (a .rest) t (a .below) (a .distinct) in
+      let c = carry-size (s .m) D (a .agent) (a .first) (a .rest) t (a .below) (a .distinct) in
       let e = ap (λ (x : ℕ). one (eqb (D x) t)) (a .ends) in
       let f = ap (λ (E : ℕ → ℕ). size (s .m) (bundle E t)) (a .moved) in
       omega arith
 
-  given-sum : given s (after .owner) + sum (s .n) (λ t. one (eqb (D end) t)) ≡ given s (h .owner) + sum (s .n) (λ t. one (eqb (a .seat) t))
+  given-sum : given s (after .owner) + sum (s .n) (λ t. one (eqb (D end) t)) ≡ given s (h .owner) + sum (s .n) (λ t. one (eqb (a .agent) t))
   unfolding given
   given-sum =
       sym (sum-add (s .n) (λ t. size (s .m) (bundle (holder (after .owner)) t)) (λ t. one (eqb (D end) t)))
-      ∙ sum-same (s .n) (λ t. size (s .m) (bundle (holder (after .owner)) t) + one (eqb (D end) t)) (λ t. size (s .m) (bundle D t) + one (eqb (a .seat) t)) (λ t _. size-after t)
-      ∙ sum-add (s .n) (λ t. size (s .m) (bundle D t)) (λ t. one (eqb (a .seat) t))
+      ∙ sum-same (s .n) (λ t. size (s .m) (bundle (holder (after .owner)) t) + one (eqb (D end) t)) (λ t. size (s .m) (bundle D t) + one (eqb (a .agent) t)) (λ t _. size-after t)
+      ∙ sum-add (s .n) (λ t. size (s .m) (bundle D t)) (λ t. one (eqb (a .agent) t))
 
   -- a chain to the pool gives one more
   pub given-more : s .n ≤ D end → given s (after .owner) ≡ given s (h .owner) + 1
-  given-more l = let g = given-sum in let i = sum-in (s .n) (a .seat) (a .team) in let o = sum-out (s .n) (D end) l in omega arith
+  given-more l = let g = given-sum in let i = sum-in (s .n) (a .agent) (a .is-agent) in let o = sum-out (s .n) (D end) l in omega arith
 
-  -- a chain to a seat leaves as many given
+  -- a chain to an agent leaves as many given
   pub given-same : D end < s .n → given s (after .owner) ≡ given s (h .owner)
-  given-same l = let g = given-sum in let i = sum-in (s .n) (a .seat) (a .team) in let o = sum-in (s .n) (D end) l in omega arith
+  given-same l = let g = given-sum in let i = sum-in (s .n) (a .agent) (a .is-agent) in let o = sum-in (s .n) (D end) l in omega arith

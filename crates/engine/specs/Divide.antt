@@ -5,11 +5,11 @@ use mathlib.Core.List.{List, []}
 use lib.ListN.{length, getD}
 use Rattle.matroid.specs.Set.{size}
 use Rattle.matroid.specs.Division.{bundle}
-use Rattle.kinds.specs.Teams.{teamAt}
-use Rattle.engine.specs.declared.Seats.{Seats}
+use Rattle.kinds.specs.Valuations.{blankValuation}
+use Rattle.exchange.specs.declared.Agents.{Agents}
 use Rattle.engine.specs.declared.divide.Division.{Division}
 use Rattle.engine.specs.declared.share.Shared.{Shared}
-use Rattle.engine.specs.Seats.{holder}
+use Rattle.exchange.specs.Agents.{holder}
 use Rattle.engine.specs.Fill.{Full}
 use Rattle.engine.specs.Share.{ShareOf}
 
@@ -17,18 +17,18 @@ use Rattle.engine.specs.Share.{ShareOf}
 abbrev pub noShare : Shared
 noShare = record { share = 0; bound = 0; part = [] }
 
--- the shares of the seats below k
-pub record AllShares (s : Seats) (k : ℕ) (r : List Shared) : Type 0 where
+-- the shares of the agents below k
+pub record AllShares (s : Agents) (k : ℕ) (r : List Shared) : Type 0 where
   pub long : length r ≡ 12
-  pub at : (t : ℕ) → t < k → ShareOf (s .m) (s .n) (teamAt (s .teams) (s .n) t) (getD r t noShare)
+  pub at : (t : ℕ) → t < k → ShareOf (s .m) (s .n) (getD (s .valuations) t blankValuation) (getD r t noShare)
 
 -- the shares below k as numbers
 pub record Targets (shares : List Shared) (k : ℕ) (r : List ℕ) : Type 0 where
   pub long : length r ≡ 12
   pub at : (t : ℕ) → t < k → getD r t 0 ≡ getD shares t noShare .share
 
--- every bundle is independent, the total is greatest by the bound, each share is the seat's share, and no seat holds less
-pub record Divided (s : Seats) (r : Division) : Type 0 where
+-- every bundle is independent, the total is greatest by the bound, each share is the agent's share, and no agent holds less
+pub record Divided (s : Agents) (r : Division) : Type 0 where
   pub full : Full s (r .holding) (r .bound)
   pub shares : AllShares s (s .n) (r .shares)
   pub reached : (t : ℕ) → t < s .n → getD (r .shares) t noShare .share ≤ size (s .m) (bundle (holder (r .holding .owner)) t)

@@ -1,4 +1,4 @@
--- What filling the seats comes to.
+-- What filling the agents comes to.
 use Prim.Native.Nat.{ℕ, _+_, _≤_, _<_}
 use mathlib.Core.Path.{_≡_}
 use mathlib.Core.List.{List}
@@ -10,23 +10,23 @@ use Rattle.matroid.specs.Matroid.{worth}
 use Rattle.matroid.specs.Division.{bundle}
 use Rattle.sets.specs.Bits.{bit}
 use Rattle.holding.specs.declared.Holding.{Holding}
-use Rattle.engine.specs.declared.Seats.{Seats}
-use Rattle.engine.specs.Seats.{seatOf, holder, Held}
+use Rattle.exchange.specs.declared.Agents.{Agents}
+use Rattle.exchange.specs.Agents.{agentMatroid, holder, Held}
 
--- at most 64 instruments and 1 to 12 seats
-pub record Seated (s : Seats) : Type 0 where
+-- at most 64 instruments and 1 to 12 agents
+pub record ValidAgents (s : Agents) : Type 0 where
   pub small : s .m ≤ 64
   pub some : 1 ≤ s .n
   pub few : s .n ≤ 12
-  pub teams-long : length (s .teams) ≡ 12
+  pub valuations-long : length (s .valuations) ≡ 12
 
--- how many instruments the seats hold
-unfoldable pub given : Seats → List ℕ → ℕ
+-- how many instruments the agents hold
+unfoldable pub given : Agents → List ℕ → ℕ
 given s owner = sum (s .n) (λ t. size (s .m) (bundle (holder owner) t))
 
--- Every bundle is independent, and the seats hold as many as the set K allows: (instruments outside K) + sum of v(K). So no division has a
+-- Every bundle is independent, and the agents hold as many as the set K allows: (instruments outside K) + sum of v(K). So no division has a
 -- larger total.
-pub record Full (s : Seats) (h : Holding) (k : ℕ) : Type 0 where
+pub record Full (s : Agents) (h : Holding) (k : ℕ) : Type 0 where
   pub held : Held s h
   pub low : (g : ℕ) → T (bit k g) → g < s .m
-  pub full : given s (h .owner) ≡ size (s .m) (complement (bit k)) + sum (s .n) (λ t. worth (seatOf s t) (bit k))
+  pub full : given s (h .owner) ≡ size (s .m) (complement (bit k)) + sum (s .n) (λ t. worth (agentMatroid s t) (bit k))

@@ -10,32 +10,32 @@ use Rattle.matroid.specs.Matroid.{worth}
 use Rattle.matroid.specs.Division.{bundle}
 use Rattle.sets.specs.Bits.{bit}
 use Rattle.holding.specs.declared.Holding.{Holding}
-use Rattle.engine.specs.declared.Seats.{Seats}
-use Rattle.engine.specs.Seats.{seatOf, holder, Held}
+use Rattle.exchange.specs.declared.Agents.{Agents}
+use Rattle.exchange.specs.Agents.{agentMatroid, holder, Held}
 use Rattle.engine.specs.Fill.{given, Full}
 
 -- the size of word t
 unfoldable pub wordSize : List ℕ → ℕ → ℕ
 wordSize bundles t = size 64 (bit (getD bundles t 0))
 
--- r is the lowest seat below n whose word is smaller than its target, or n
+-- r is the lowest agent below n whose word is smaller than its target, or n
 pub record FirstShort (bundles targets : List ℕ) (n r : ℕ) : Type 0 where
   pub top : r ≤ n
   pub before : (t : ℕ) → t < r → getD targets t 0 ≤ wordSize bundles t
   pub short : r < n → wordSize bundles r < getD targets r 0
 
--- r holds the words of the seats below n that are larger than their targets
+-- r holds the words of the agents below n that are larger than their targets
 pub record Above (bundles targets : List ℕ) (n r : ℕ) : Type 0 where
   pub at : (j : ℕ) → T (bit r j) ↔ ((t : ℕ) × (t < n) × ((getD targets t 0 < wordSize bundles t) × T (bit (getD bundles t 0) j)))
 
 -- A holding of greatest total, and targets that every set allows: n × target is at most (members of R) + n × v(outside R).
-pub record Levellable (s : Seats) (h : Holding) (targets : List ℕ) : Type 0 where
+pub record Levellable (s : Agents) (h : Holding) (targets : List ℕ) : Type 0 where
   pub bound : ℕ
   pub full : Full s h bound
-  pub allowed : (t : ℕ) → t < s .n → (R : Set) → s .n * getD targets t 0 ≤ size (s .m) R + s .n * worth (seatOf s t) (complement R)
+  pub allowed : (t : ℕ) → t < s .n → (R : Set) → s .n * getD targets t 0 ≤ size (s .m) R + s .n * worth (agentMatroid s t) (complement R)
 
--- every bundle is independent, as many are given as before, and every seat has its target
-pub record Levelled (s : Seats) (before : Holding) (targets : List ℕ) (h : Holding) : Type 0 where
+-- every bundle is independent, as many are given as before, and every agent has its target
+pub record Levelled (s : Agents) (before : Holding) (targets : List ℕ) (h : Holding) : Type 0 where
   pub held : Held s h
   pub same : given s (h .owner) ≡ given s (before .owner)
   pub reached : (t : ℕ) → t < s .n → getD targets t 0 ≤ size (s .m) (bundle (holder (h .owner)) t)

@@ -1,6 +1,5 @@
-pub mod Seats
-pub mod Search
-pub mod Chains
+-- The vocabulary of the contracts: nothing here must be believed for the demands, which the checker's definitions state. Each file says what
+-- the functions of the source file of its name promise.
 pub mod Greedy
 pub mod Fill
 pub mod Level

@@ -1,29 +1,28 @@
-// Divide: a division of greatest total in which every seat has at least its share.
-ghost use Prim.Native.Nat.{_≤_};
-ghost use Rattle.engine.specs.Fill.{Seated};
+// Divide: a division of greatest total in which every agent has at least its share.
+ghost use Rattle.engine.specs.Fill.{ValidAgents};
 ghost use Rattle.engine.specs.Divide.{AllShares, Targets, Divided};
-use super::Seats;
 use super::fill::fill;
 use super::level::level;
 use super::share::Shared;
 use super::share::share_of;
+use exchange::Agents;
 use holding::Holding;
 
-// All that a sheet needs: who holds what, the set that bounds the total, and each seat's share with its certificates.
+// All that a sheet needs: who holds what, the set that bounds the total, and each agent's share with its certificates.
 pub struct Division {
     pub holding: Holding,
     pub bound: u64,
     pub shares: [Shared; 12],
 }
 
-// The share of each seat.
-fn all_shares(s: Seats) -> [Shared; 12]
-    requires { ⌜ Seated s ⌝ }
+// The share of each agent.
+fn all_shares(s: Agents) -> [Shared; 12]
+    requires { ⌜ ValidAgents s ⌝ }
     ensures { λ r. ⌜ AllShares s (s .n) r ⌝ }
 {
     let m = s.m;
     let n = s.n;
-    let teams = s.teams;
+    let valuations = s.valuations;
     let none = Shared {
         share: 0,
         bound: 0,
@@ -31,8 +30,8 @@ fn all_shares(s: Seats) -> [Shared; 12]
     };
     let mut shares = [none; 12];
     for t in 0..n {
-        let team = teams[t];
-        let one = share_of(team, m, n);
+        let v = valuations[t];
+        let one = share_of(v, m, n);
         shares[t] = one;
     }
     shares
@@ -51,8 +50,8 @@ fn targets_of(shares: [Shared; 12]) -> [u8; 12]
 }
 
 // The division.
-pub fn divide(s: Seats) -> Division
-    requires { ⌜ Seated s ⌝ }
+pub fn divide(s: Agents) -> Division
+    requires { ⌜ ValidAgents s ⌝ }
     ensures { λ r. ⌜ Divided s r ⌝ }
 {
     let f = fill(s);

@@ -1,10 +1,9 @@
-// Fill: from the greedy start, chains from any seat to the pool, until none is left.
-ghost use Prim.Native.Nat.{_≤_};
-ghost use Rattle.engine.specs.Fill.{Seated, Full};
-use super::Seats;
-use super::chains::moves_back;
+// Fill: from the greedy start, chains from any agent to the pool, until none is left.
+ghost use Rattle.engine.specs.Fill.{ValidAgents, Full};
 use super::greedy::greedy;
-use super::search::search;
+use exchange::Agents;
+use exchange::chains::moves_back;
+use exchange::search::search;
 use holding::Holding;
 
 // A holding of greatest total, and the set that bounds every total.
@@ -13,9 +12,9 @@ pub struct Filled {
     pub bound: u64,
 }
 
-// A holding of greatest total among the seats, with its certificate.
-pub fn fill(s: Seats) -> Filled
-    requires { ⌜ Seated s ⌝ }
+// A holding of greatest total among the agents, with its certificate.
+pub fn fill(s: Agents) -> Filled
+    requires { ⌜ ValidAgents s ⌝ }
     ensures { λ r. ⌜ Full s (r .holding) (r .bound) ⌝ }
 {
     let m = s.m;

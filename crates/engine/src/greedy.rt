@@ -1,11 +1,11 @@
-// A start for fill: each seat in turn takes what it can of the pool.
-ghost use Rattle.engine.specs.Seats.{Held};
-ghost use Rattle.engine.specs.Fill.{Seated};
+// A start for fill: the agents in turn are offered what is in the pool.
+ghost use Rattle.exchange.specs.Agents.{Held};
+ghost use Rattle.engine.specs.Fill.{ValidAgents};
 ghost use Rattle.engine.specs.Greedy.{Offered, Handed};
-use super::Seats;
+use exchange::Agents;
 use holding::Holding;
 
-// The holding in which each of these instruments of the pool is given to a seat.
+// The holding in which each of these instruments of the pool is given to an agent.
 fn handed(start: Holding, t: usize, fresh: u64) -> Holding
     requires { ⌜ Offered start t fresh ⌝ }
     ensures { λ r. ⌜ Handed start t fresh 64 r ⌝ }
@@ -20,21 +20,21 @@ fn handed(start: Holding, t: usize, fresh: u64) -> Holding
     h
 }
 
-// Each seat in turn takes what it can of the pool, at most so many.
-fn round(s: Seats, start: Holding, most: usize) -> Holding
+// The holding after each agent in turn was offered the pool, to take so many or fewer: every bundle stays independent.
+fn round(s: Agents, start: Holding, most: usize) -> Holding
     requires { ⌜ Held s start ⌝ }
     ensures { λ r. ⌜ Held s r ⌝ }
 {
     let m = s.m;
     let n = s.n;
-    let teams = s.teams;
+    let valuations = s.valuations;
     let words = start.bundles();
     let mut h = start;
     let mut pool = start.pool();
     for t in 0..n {
-        let team = teams[t];
+        let v = valuations[t];
         let bundle = words[t];
-        let larger = kinds::grown(team, m, bundle, pool, most);
+        let larger = kinds::grown(v, m, bundle, pool, most);
         let fresh = sets::minus(larger, bundle);
         h = handed(h, t, fresh);
         pool = sets::minus(pool, fresh);
@@ -42,9 +42,10 @@ fn round(s: Seats, start: Holding, most: usize) -> Holding
     h
 }
 
-// A holding in which no seat can simply take more: first each takes no more than an even part, so that few are short later.
-pub fn greedy(s: Seats) -> Holding
-    requires { ⌜ Seated s ⌝ }
+// A holding of the agents in which every bundle is independent. It is a start, made in two rounds: how much they hold is no part of the
+// promise.
+pub fn greedy(s: Agents) -> Holding
+    requires { ⌜ ValidAgents s ⌝ }
     ensures { λ r. ⌜ Held s r ⌝ }
 {
     let m = s.m;

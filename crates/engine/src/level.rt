@@ -1,12 +1,12 @@
-// Level: chains from each short seat to a seat above its target, until nobody is short.
+// Level: chains from each short agent to an agent above its target, until nobody is short.
 ghost use Prim.Native.Nat.{_≤_};
 ghost use Rattle.engine.specs.Level.{FirstShort, Above, Levellable, Levelled};
-use super::Seats;
-use super::chains::moves_back;
-use super::search::search;
+use exchange::Agents;
+use exchange::chains::moves_back;
+use exchange::search::search;
 use holding::Holding;
 
-// The lowest of n seats that holds fewer than its target, or n.
+// The lowest of n agents that holds fewer than its target, or n.
 fn first_short(bundles: [u64; 12], targets: [u8; 12], n: usize) -> usize
     requires { ⌜ n ≤ 12 ⌝ }
     ensures { λ r. ⌜ FirstShort bundles targets n r ⌝ }
@@ -22,7 +22,7 @@ fn first_short(bundles: [u64; 12], targets: [u8; 12], n: usize) -> usize
     n
 }
 
-// The instruments of the seats that hold more than their targets.
+// The instruments of the agents that hold more than their targets.
 fn above(bundles: [u64; 12], targets: [u8; 12], n: usize) -> u64
     requires { ⌜ n ≤ 12 ⌝ }
     ensures { λ r. ⌜ Above bundles targets n r ⌝ }
@@ -37,8 +37,8 @@ fn above(bundles: [u64; 12], targets: [u8; 12], n: usize) -> u64
     rich
 }
 
-// A holding of the same total in which every seat has its target.
-pub fn level(s: Seats, start: Holding, targets: [u8; 12]) -> Holding
+// A holding of the same total in which every agent has its target.
+pub fn level(s: Agents, start: Holding, targets: [u8; 12]) -> Holding
     requires { ⌜ Levellable s start targets ⌝ }
     ensures { λ r. ⌜ Levelled s start targets r ⌝ }
 {

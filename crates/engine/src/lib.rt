@@ -1,17 +1,6 @@
-// The engine: from seats to a division of greatest total in which nobody is short, with certificates.
-use plan::Team;
-
-pub mod chains;
+// The engine: from agents, each with a valuation, to a division of greatest total in which nobody is short, with certificates.
 pub mod divide;
 pub mod fill;
 pub mod greedy;
 pub mod level;
-pub mod search;
 pub mod share;
-
-// Who takes part: n seats, each a team with its own worth, among m instruments.
-pub struct Seats {
-    pub m: usize,
-    pub n: usize,
-    pub teams: [Team; 12],
-}

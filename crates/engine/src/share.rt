@@ -1,11 +1,11 @@
-// A team's maximin share: n seats of the same team are filled and levelled.
+// The maximin share of a valuation: n agents of the same valuation are filled and levelled.
 ghost use Prim.Native.Nat.{_≤_};
 ghost use Rattle.engine.specs.Share.{Counted, Parted, ShareOf};
-use super::Seats;
 use super::fill::fill;
 use super::level::level;
+use exchange::Agents;
 use holding::Holding;
-use plan::Team;
+use kinds::Valuation;
 
 // A share, the set that bounds it, and a cut into parts each worth the share.
 pub struct Shared {
@@ -38,15 +38,15 @@ fn parts(owner: [u8; 64], n: usize) -> [u8; 64]
     part
 }
 
-// The share of a team among n, with its certificates.
-pub fn share_of(team: Team, m: usize, n: usize) -> Shared
+// The share of a valuation among n, with its certificates.
+pub fn share_of(v: Valuation, m: usize, n: usize) -> Shared
     requires { ⌜ (m ≤ 64) × (1 ≤ n) × (n ≤ 12) ⌝ }
-    ensures { λ r. ⌜ ShareOf m n team r ⌝ }
+    ensures { λ r. ⌜ ShareOf m n v r ⌝ }
 {
-    let s = Seats {
+    let s = Agents {
         m,
         n,
-        teams: [team; 12],
+        valuations: [v; 12],
     };
     let f = fill(s);
     let h = f.holding;

@@ -1,14 +1,13 @@
 -- What a chain of moves that fit comes to.
 use Prim.Native.Nat.{ℕ, zero, suc, _≤_, _<_}
 use mathlib.Core.Path.{_≡_, refl, sym, _∙_}
-use mathlib.Core.Bool.{Bool, true, false, _||_, cond, or-true}
-use mathlib.Core.Logic.{_⊎_, inl, inr, _≢_}
+use mathlib.Core.Bool.{Bool, true, false, cond}
+use mathlib.Core.Logic.{_≢_}
 use native.Mathlib.Omega.{arith}
 use native.Mathlib.Decide.{ℕ-discrete}
-use lib.Dec.{eqb}
 use lib.ListN.{length, getD, set}
 use lib.Seq.{getD-set-same, getD-set-other}
-use borrow.Author.Tests.{lt-ltb, le-leb, eq-eqb, ne-eqb}
+use borrow.Author.Tests.{lt-ltb, le-leb, ne-eqb}
 use Rattle.holding.specs.declared.Holding.{Holding}
 use Rattle.holding.specs.declared.Moves.{Moves}
 use Rattle.holding.specs.Give.{holderOf, isInstrument, isTeam, withOwner}
@@ -40,12 +39,11 @@ chain-long h moves = go (movesFit h moves)
     go true = moved-long (h .owner) moves (moves .count)
     go false = refl
 
--- the moves fit a holding: instruments, teams, places, and no instrument twice
+-- the moves fit a holding: instruments, teams, and no instrument twice
 pub record Fit (h : Holding) (moves : Moves) : Type 0 where
   pub few : moves .count ≤ 64
   pub item : (k : ℕ) → k < moves .count → itemAt moves k < h .m
   pub team : (k : ℕ) → k < moves .count → teamOf moves k < h .n
-  pub place : (k : ℕ) → k < moves .count → (holderOf h (itemAt moves k) ≡ 255) ⊎ (holderOf h (itemAt moves k) < h .n)
   pub once : (j k : ℕ) → j < k → k < moves .count → itemAt moves j ≢ itemAt moves k
 
 -- an instrument that none of the first k moves has is not found among them
@@ -54,12 +52,6 @@ unfolding earlier
 earlier-none moves zero x d = refl
 earlier-none moves (suc k) x d = rw (earlier-none moves k x (λ j l. d j (omega arith)), ne-eqb x (itemAt moves k) (λ e. d k (omega arith) (sym e))) refl
 
--- a place that is the pool or a team
-placed : (h : Holding) (p : ℕ) → h .n ≤ 12 → (p ≡ 255) ⊎ (p < h .n) → (eqb p 255 || isTeam h p) ≡ true
-unfolding isTeam
-placed h p few (inl e) = rw (eq-eqb p 255 e) refl
-placed h p few (inr l) = rw (lt-ltb p (h .n) l, lt-ltb p 255 (omega arith)) (or-true (eqb p 255))
-
 module _ (h : Holding) (moves : Moves) (small : h .m ≤ 64) (few : h .n ≤ 12) (fit : Fit h moves) where
   -- each move fits
   each : (k : ℕ) → k < moves .count → mayMove h (itemAt moves k) (teamOf moves k) ≡ true
@@ -67,7 +59,7 @@ module _ (h : Holding) (moves : Moves) (small : h .m ≤ 64) (few : h .n ≤ 12)
   each k l =
       let i = fit .item k l in
       let t = fit .team k l in
-      rw (lt-ltb (itemAt moves k) (h .m) i, lt-ltb (itemAt moves k) 64 (omega arith), lt-ltb (teamOf moves k) (h .n) t, lt-ltb (teamOf moves k) 255 (omega arith)) (placed h (holderOf h (itemAt moves k)) few (fit .place k l))
+      rw (lt-ltb (itemAt moves k) (h .m) i, lt-ltb (itemAt moves k) 64 (omega arith), lt-ltb (teamOf moves k) (h .n) t, lt-ltb (teamOf moves k) 12 (omega arith)) refl
 
   -- and so do the first k of them
   first : (k : ℕ) → k ≤ moves .count → firstFit h moves k ≡ true

@@ -11,10 +11,10 @@ use Rattle.matroid.specs.Set.{with}
 use Rattle.sets.specs.Bits.{bit}
 use Rattle.holding.specs.declared.Holding.{Holding}
 use Rattle.holding.specs.declared.Moves.{Moves}
-use Rattle.holding.specs.Give.{holderOf, isInstrument, isTeam}
+use Rattle.holding.specs.Give.{isInstrument, isTeam}
 use Rattle.holding.specs.Chain.{itemAt, teamOf, mayMove, earlier, firstFit, movesFit}
 use Rattle.holding.proofs.Tests.{and-left, and-right, instrument-below}
-use Rattle.sets.specs.Below.{bit-none}
+use Rattle.sets.proofs.Below.{bit-none}
 
 -- the first k moves fit, and the word holds their instruments
 pub record Fitting (h : Holding) (moves : Moves) (k word : ℕ) : Type 0 where
@@ -45,7 +45,7 @@ each-fits h moves (suc n) k e l = go (ℕ-discrete k n) (λ (s : k < n). each-fi
 -- what moves is an instrument
 pub move-below : (h : Holding) (g t : ℕ) → mayMove h g t ≡ true → g < 64
 unfolding mayMove
-move-below h g t e = instrument-below h g (and-left (isInstrument h g) (isTeam h t && (eqb (holderOf h g) 255 || isTeam h (holderOf h g))) e)
+move-below h g t e = instrument-below h g (and-left (isInstrument h g) (isTeam h t) e)
 
 -- moves that fit are at most 64
 pub fit-few : (h : Holding) (moves : Moves) → movesFit h moves ≡ true → moves .count ≤ 64

@@ -9,7 +9,7 @@ use lib.Dec.{ltb}
 use borrow.Author.Tests.{lt-ltb, le-ltb, eq-eqb, ne-eqb}
 use Rattle.matroid.specs.Set.{Set, with}
 use Rattle.sets.specs.Bits.{bit}
-use Rattle.sets.specs.Below.{bit-none}
+use Rattle.sets.proofs.Below.{bit-none}
 
 -- the word holds the numbers below k that pass the test
 abbrev pub Marks : (test : Set) (k word : ℕ) → Type 0

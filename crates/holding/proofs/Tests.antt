@@ -23,7 +23,7 @@ pub instrument-below : (h : Holding) (g : ℕ) → isInstrument h g ≡ true →
 unfolding isInstrument
 instrument-below h g e = ltb-true g 64 (and-right (ltb g (h .m)) (ltb g 64) e)
 
--- a team's number is not that of the pool
-pub team-below : (h : Holding) (t : ℕ) → isTeam h t ≡ true → t < 255
+-- a team's number is a byte
+pub team-below : (h : Holding) (t : ℕ) → isTeam h t ≡ true → t < 12
 unfolding isTeam
-team-below h t e = ltb-true t 255 (and-right (ltb t (h .n)) (ltb t 255) e)
+team-below h t e = ltb-true t 12 (and-right (ltb t (h .n)) (ltb t 12) e)

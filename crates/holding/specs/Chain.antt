@@ -6,7 +6,7 @@ use lib.Dec.{eqb, leb}
 use lib.ListN.{getD, set}
 use Rattle.holding.specs.declared.Holding.{Holding}
 use Rattle.holding.specs.declared.Moves.{Moves}
-use Rattle.holding.specs.Give.{holderOf, isInstrument, isTeam, withOwner}
+use Rattle.holding.specs.Give.{isInstrument, isTeam, withOwner}
 
 -- move k: the instrument
 abbrev pub itemAt : Moves → ℕ → ℕ
@@ -16,9 +16,10 @@ itemAt moves k = getD (moves .item) k 0
 abbrev pub teamOf : Moves → ℕ → ℕ
 teamOf moves k = getD (moves .to) k 0
 
--- "an instrument may come from the pool or from any team, the one that gets it included"
+-- "there an instrument may come from the pool or from any team, the one that gets it included": every instrument is in the pool or with a
+-- team, so its present place always fits
 unfoldable pub mayMove : Holding → (g t : ℕ) → Bool
-mayMove h g t = isInstrument h g && (isTeam h t && (eqb (holderOf h g) 255 || isTeam h (holderOf h g)))
+mayMove h g t = isInstrument h g && isTeam h t
 
 -- one of the first k moves is of x
 unfoldable pub earlier : Moves → (k x : ℕ) → Bool

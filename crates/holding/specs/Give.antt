@@ -1,22 +1,28 @@
 -- Give and return (document 01, "Worth and share").
+-- Instruments are the numbers below m and 64, teams those below n and 12; an instrument whose owner is no team is in the pool (255 is what
+-- is written there).
 use Prim.Native.Nat.{ℕ}
-use mathlib.Core.Bool.{Bool, _&&_, cond}
+use mathlib.Core.Bool.{Bool, _&&_, not, cond}
 use mathlib.Core.List.{List}
-use lib.Dec.{eqb, ltb}
+use lib.Dec.{ltb}
 use lib.ListN.{getD, set, replicate}
 use Rattle.holding.specs.declared.Holding.{Holding}
 
--- "A division gives each instrument to one team or leaves it in the pool": the team that holds g, or 255 for the pool
+-- "A division gives each instrument to one team or leaves it in the pool": the owner of g
 unfoldable pub holderOf : Holding → ℕ → ℕ
 holderOf h g = getD (h .owner) g 255
 
--- g is one of the m instruments
+-- g is an instrument
 unfoldable pub isInstrument : Holding → ℕ → Bool
 isInstrument h g = ltb g (h .m) && ltb g 64
 
--- t is one of the n teams
+-- t is a team
 unfoldable pub isTeam : Holding → ℕ → Bool
-isTeam h t = ltb t (h .n) && ltb t 255
+isTeam h t = ltb t (h .n) && ltb t 12
+
+-- no team holds g
+unfoldable pub inPool : Holding → ℕ → Bool
+inPool h g = not (isTeam h (holderOf h g))
 
 -- the same holding with other owners
 abbrev pub withOwner : Holding → List ℕ → Holding
@@ -29,8 +35,8 @@ allInPool m n = record { m = m; n = n; owner = replicate 64 255 }
 -- "Give (instrument, team) puts a pool instrument with a team"; "Where an instrument, a team or the instrument's present place does not
 -- fit this, the holding comes back unchanged."
 unfoldable pub gave : Holding → (g t : ℕ) → Holding
-gave h g t = cond (isInstrument h g && (isTeam h t && eqb (holderOf h g) 255)) (withOwner h (set (h .owner) g t)) h
+gave h g t = cond (isInstrument h g && (isTeam h t && inPool h g)) (withOwner h (set (h .owner) g t)) h
 
 -- "return (instrument) puts a held one in the pool"
 unfoldable pub returned : Holding → (g : ℕ) → Holding
-returned h g = cond (isInstrument h g && isTeam h (holderOf h g)) (withOwner h (set (h .owner) g 255)) h
+returned h g = cond (isInstrument h g && not (inPool h g)) (withOwner h (set (h .owner) g 255)) h

@@ -1,12 +1,14 @@
 // Who holds each instrument, and the operations that change it: give, return and chain.
 ghost use mathlib.Core.Path.{_≡_};
 ghost use mathlib.Core.Bool.{true};
-ghost use Prim.Native.Nat.{_≤_};
-ghost use Rattle.holding.specs.Give.{holderOf, isInstrument, isTeam, allInPool, gave, returned};
+ghost use Prim.Native.Nat.{min};
+ghost use Rattle.sets.specs.Bundles.{Bundles};
+ghost use Rattle.holding.specs.Give.{holderOf, isInstrument, isTeam, inPool, allInPool, gave, returned};
 ghost use Rattle.holding.specs.Chain.{mayMove, movesFit, carriedOut, chained};
-ghost use Rattle.holding.specs.Words.{Bundles, Pool};
+ghost use Rattle.holding.specs.Words.{Pool};
 
-// The team that holds each of m instruments, among n teams; 255 stands for the pool.
+// The owner of each instrument. Instruments are the numbers below m and 64, teams those below n and 12; an instrument whose owner is no
+// team is in the pool (255 is what is written there).
 pub struct Holding {
     pub m: usize,
     pub n: usize,
@@ -43,14 +45,21 @@ impl Holding {
     fn is_team(self, t: usize) -> bool
         ensures { λ r. ⌜ r ≡ isTeam self t ⌝ }
     {
-        if t < self.n { t < 255 } else { false }
+        if t < self.n { t < 12 } else { false }
     }
 
-    // The place of g: a team, or 255 for the pool.
+    // The owner of g.
     fn holder(self, g: usize) -> usize
         ensures { λ r. ⌜ r ≡ holderOf self g ⌝ }
     {
         if g < 64 { self.owner[g] as usize } else { 255 }
+    }
+
+    // Whether no team holds g.
+    fn in_pool(self, g: usize) -> bool
+        ensures { λ r. ⌜ r ≡ inPool self g ⌝ }
+    {
+        !self.is_team(self.holder(g))
     }
 
     // Give: an instrument of the pool goes to a team.
@@ -59,7 +68,7 @@ impl Holding {
     {
         if self.is_instrument(g) {
             if self.is_team(t) {
-                if self.holder(g) == 255 {
+                if self.in_pool(g) {
                     self.owner[g] = t as u8;
                 }
             }
@@ -72,27 +81,22 @@ impl Holding {
         ensures { λ r. ⌜ r ≡ returned self g ⌝ }
     {
         if self.is_instrument(g) {
-            if self.is_team(self.holder(g)) {
+            if !self.in_pool(g) {
                 self.owner[g] = 255;
             }
         }
         self
     }
 
-    // Whether a move of g to t fits: an instrument, a team, and g in the pool or with a team.
+    // Whether a move of g to t fits: an instrument and a team. Every instrument is in the pool or with a team, so its place fits.
     fn may_move(self, g: usize, t: usize) -> bool
         ensures { λ r. ⌜ r ≡ mayMove self g t ⌝ }
     {
         if self.is_instrument(g) {
-            if self.is_team(t) {
-                let place = self.holder(g);
-                if place == 255 {
-                    return true;
-                }
-                return self.is_team(place);
-            }
+            self.is_team(t)
+        } else {
+            false
         }
-        false
     }
 
     // Whether all moves fit, and none moves an instrument again.
@@ -142,14 +146,20 @@ impl Holding {
         }
     }
 
+    // How many instruments there are.
+    fn instruments(self) -> usize
+        ensures { λ r. ⌜ r ≡ min (self .m) 64 ⌝ }
+    {
+        if self.m < 64 { self.m } else { 64 }
+    }
+
     // The bundle of each team, as a word.
     pub fn bundles(self) -> [u64; 12]
-        requires { ⌜ self .m ≤ 64 ⌝ }
-        ensures { λ r. ⌜ Bundles self (self .m) r ⌝ }
+        ensures { λ r. ⌜ Bundles (self .m) (holderOf self) r ⌝ }
     {
-        let m = self.m;
+        let end = self.instruments();
         let mut words = [0u64; 12];
-        for g in 0..m {
+        for g in 0..end {
             let t = self.holder(g);
             if t < 12 {
                 words[t] = sets::with(words[t], g);
@@ -158,16 +168,14 @@ impl Holding {
         words
     }
 
-    // The instruments that no team holds, as a word.
+    // The instruments in the pool, as a word.
     pub fn pool(self) -> u64
-        requires { ⌜ self .m ≤ 64 ⌝ }
-        ensures { λ r. ⌜ Pool self (self .m) r ⌝ }
+        ensures { λ r. ⌜ Pool self r ⌝ }
     {
-        let m = self.m;
+        let end = self.instruments();
         let mut word: u64 = 0;
-        for g in 0..m {
-            let t = self.holder(g);
-            if t >= self.n {
+        for g in 0..end {
+            if self.in_pool(g) {
                 word = sets::with(word, g);
             }
         }

@@ -1,9 +1,4 @@
-pub mod Entries
-pub mod Relabel
-pub mod Members
-pub mod Grouping
-pub mod Labelling
-pub mod Joining
-pub mod Classes
-pub mod Larger
-pub mod Answers
+pub mod Cases
+pub mod Truncating
+pub mod Contracting
+pub mod Nothing

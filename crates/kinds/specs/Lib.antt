@@ -1,9 +1,3 @@
-pub mod Caps
-pub mod Net
-pub mod Trail
-pub mod Groups
-pub mod Loops
-pub mod Accepted
-pub mod Counts
-pub mod Labels
+-- Definitions to believe: Teams (a team's matroid, by its kind and its channels) and Valuations (the matroid of a valuation).
 pub mod Teams
+pub mod Valuations

@@ -1,87 +1,84 @@
-// What a set of instruments is worth to a team, and what may join it. Nothing above this crate knows a kind of team.
+// What a set of instruments is worth by a valuation, and what may join it. Nothing above this crate knows a kind of team.
 ghost use mathlib.Core.Path.{_≡_};
+ghost use mathlib.Core.Bool.{true, false};
 ghost use Prim.Native.Nat.{_≤_};
 ghost use Rattle.matroid.specs.Matroid.{worth};
 ghost use Rattle.sets.specs.Bits.{bit};
-ghost use Rattle.kinds.specs.Teams.{matroidOf, teamAt, Gains, Grown, worthAnswer};
-use plan::Team;
+ghost use Rattle.sets.specs.Joining.{MayJoin, Grown};
+ghost use Rattle.kinds.specs.Teams.{kindMatroid};
+ghost use Rattle.kinds.specs.Valuations.{matroidOf, blankValuation};
+use team::Team;
 
-pub mod caps;
-pub mod growing;
-pub mod loops;
+mod channels;
+mod structure;
 
-// What Worth answers.
-pub enum Answer {
-    Refused(usize, usize),
-    Worth(usize),
+// What an agent values: a set of usable instruments, by what its team gains with it above the instruments that are glued to it.
+pub struct Valuation {
+    pub team: Team,
+    pub usable: u64,
+    pub glued: u64,
 }
 
-// What a set is worth to a team among m instruments. Members at or above m are passed over.
-pub fn worth_of(team: Team, m: usize, set: u64) -> usize
-    requires { ⌜ m ≤ 64 ⌝ }
-    ensures { λ r. ⌜ r ≡ worth (matroidOf m team) (bit set) ⌝ }
+// The valuation of a team of no kind: every set is worth 0.
+pub fn blank() -> Valuation
+    ensures { λ r. ⌜ r ≡ blankValuation ⌝ }
 {
-    let kind = team.kind;
-    if kind == 2 {
-        return caps::worth(team, m, set);
+    let team = team::blank();
+    Valuation {
+        team,
+        usable: 0,
+        glued: 0,
     }
-    if kind == 3 {
-        return loops::worth(team, m, set);
+}
+
+// Whether the glued instruments are independent for the team.
+fn stands(team: Team, m: usize, glued: u64) -> bool
+    requires { ⌜ m ≤ 64 ⌝ }
+    ensures yes { λ r. ⌜ (r ≡ true → kindMatroid m team .Indep (bit glued)) ⌝ }
+    ensures no { λ r. ⌜ (r ≡ false → kindMatroid m team .Indep (bit glued) → ⊥) ⌝ }
+{
+    if glued == 0 {
+        return true;
     }
-    0
+    channels::worth(team, m, glued) == sets::size_below(m, glued)
+}
+
+// What a set is worth by a valuation among m instruments. Members at or above m are passed over.
+pub fn worth_of(v: Valuation, m: usize, set: u64) -> usize
+    requires { ⌜ m ≤ 64 ⌝ }
+    ensures { λ r. ⌜ r ≡ worth (matroidOf m v) (bit set) ⌝ }
+{
+    let team = v.team;
+    if !stands(team, m, v.glued) {
+        return 0;
+    }
+    let whole = sets::either(sets::both(set, v.usable), v.glued);
+    channels::worth(team, m, whole) - sets::size_below(m, v.glued)
 }
 
 // The instruments below m, outside an independent set, that keep it independent.
-pub fn gains_of(team: Team, m: usize, set: u64) -> u64
+pub fn gains_of(v: Valuation, m: usize, set: u64) -> u64
     requires { ⌜ m ≤ 64 ⌝ }
-    ensures { λ r. ⌜ (matroidOf m team .Indep (bit set) → Gains (matroidOf m team) (bit set) r) ⌝ }
+    ensures { λ r. ⌜ (matroidOf m v .Indep (bit set) → MayJoin (matroidOf m v) (bit set) r) ⌝ }
 {
-    let kind = team.kind;
-    if kind == 2 {
-        return caps::gains(team, m, set);
+    let team = v.team;
+    if !stands(team, m, v.glued) {
+        return 0;
     }
-    if kind == 3 {
-        return loops::gains(team, m, set);
-    }
-    0
+    let free = channels::gains(team, m, sets::either(set, v.glued));
+    sets::both(free, v.usable)
 }
 
-// An independent set made larger by members of another, in rising order and at most so many. It is a start for a search: how many join
-// is no part of the promise.
-pub fn grown(team: Team, m: usize, set: u64, from: u64, most: usize) -> u64
+// An independent set with members of another, at most so many more. It is a start for a search: how many join is no part of the promise.
+pub fn grown(v: Valuation, m: usize, set: u64, from: u64, most: usize) -> u64
     requires { ⌜ m ≤ 64 ⌝ }
-    ensures { λ r. ⌜ Grown (matroidOf m team) set from r ⌝ }
+    ensures { λ r. ⌜ Grown (matroidOf m v) set from most r ⌝ }
 {
-    let kind = team.kind;
-    if kind == 2 {
-        return caps::grown(team, m, set, from, most);
+    let team = v.team;
+    if !stands(team, m, v.glued) {
+        return set;
     }
-    if kind == 3 {
-        return loops::grown(team, m, set, from, most);
-    }
-    set
-}
-
-// Team t of n, and a team of no kind where there is none.
-pub fn team_at(teams: [Team; 12], n: usize, t: usize) -> Team
-    requires { ⌜ n ≤ 12 ⌝ }
-    ensures { λ r. ⌜ r ≡ teamAt teams n t ⌝ }
-{
-    if t < n {
-        teams[t]
-    } else {
-        plan::carry::blank()
-    }
-}
-
-// Worth, on the bytes of a plan: what a set is worth to a team of it.
-pub fn worth(file: &[u8], team: usize, set: u64) -> Answer
-    ensures { λ r. ⌜ r ≡ worthAnswer (now (file .entry)) team set ⌝ }
-{
-    let r = plan::read(file);
-    if r.refusal != 0 {
-        return Answer::Refused(r.refusal, r.place);
-    }
-    let teams = r.teams;
-    Answer::Worth(worth_of(team_at(teams, r.n, team), r.m, set))
+    let offered = sets::both(from, v.usable);
+    let larger = channels::grown(team, m, sets::either(set, v.glued), offered, most);
+    sets::either(set, sets::minus(larger, v.glued))
 }

@@ -1,8 +1,7 @@
 // The verb `divide HEX`: the division of a plan as the weekly listing shows it.
-ghost use Prim.Native.Nat.{_≤_};
-use engine::Seats;
 use engine::divide::Division;
 use engine::share::Shared;
+use exchange::Agents;
 use lines::print;
 use std::num::wrapping_add_u64;
 
@@ -63,10 +62,10 @@ fn plan_of(file: &[u8]) {
         print::refusal(r.refusal, r.place);
         return;
     }
-    let teams = r.teams;
     let m = r.m;
     let n = r.n;
-    show(engine::divide::divide(Seats { m, n, teams }), m, n);
+    let valuations = plan::valuations_of(r);
+    show(engine::divide::divide(Agents { m, n, valuations }), m, n);
 }
 
 // Answers the verb.

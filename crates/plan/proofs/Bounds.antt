@@ -11,42 +11,44 @@ use lib.Dec.{eqb, ltb}
 use lib.ListN.{length, getD, take, replicate, length-take}
 use lib.Seq.{take-all, getD-take}
 use borrow.Author.Tests.{ltb-false, eqb-false, lt-leb, le-leb, lt-ltb}
-use Rattle.plan.specs.declared.Command.{Command}
-use Rattle.plan.specs.declared.Command.the-variants.{Missing, Unknown, Short, Start, Caps, Loops, Class, Put, Span, End}
+use Rattle.command.specs.declared.Command.{Command}
+use Rattle.command.specs.declared.Command.the-variants.{Missing, Unknown, Short, Start, Caps, Loops, Class, Put, Span, End}
 use Rattle.plan.specs.declared.Reading.{Reading}
-use Rattle.plan.specs.declared.State.{State}
-use Rattle.plan.specs.declared.Team.{Team}
-use Rattle.plan.specs.Command.{widthOf, commandOf, commandAt, lengthOf}
-use Rattle.plan.specs.Fault.{fault, isEnd}
-use Rattle.plan.specs.Carry.{blankTeam, start, openTeam, changedTeam, changedState}
+use Rattle.command.specs.declared.State.{State}
+use Rattle.team.specs.declared.Team.{Team}
+use Rattle.command.specs.Command.{widthOf, commandOf, commandAt, bytesOf}
+use Rattle.command.specs.Fault.{fault, isEnd}
+use Rattle.command.specs.Carry.{start, openTeam, changedTeam, changedState}
+use Rattle.team.specs.Team.{blankTeam}
 use Rattle.plan.specs.Read.{refused, accepted, finished, changedTeams, readFrom, readPlan}
 use Rattle.plan.specs.Valid.{Valid}
 use Rattle.plan.proofs.Kept.{Kept, kept-at, kept-start, kept-next}
-use Rattle.plan.proofs.Steps.{Whole, whole, number, step-refused, step-end, step-next, plan-start, plan-none}
+use Rattle.command.proofs.Standing.{Whole, whole}
+use Rattle.plan.proofs.Steps.{number, step-refused, step-end, step-next, plan-start, plan-none}
 
 -- What holds of every refusal and of every end holds of every reading.
 module _ (file : List ℕ) (P : Reading → Type 0)
     (at-fault : (at : ℕ) (s : State) (teams : List Team) → Kept at s teams → at ≤ length file → number file at s teams ≢ 0 → P (refused (number file at s teams) at))
-    (at-end : (at : ℕ) (s : State) (teams : List Team) → Kept at s teams → at + lengthOf (commandAt file at) ≤ length file → number file at s teams ≡ 0 → isEnd (commandAt file at) ≡ true → P (finished file at s teams)) where
+    (at-end : (at : ℕ) (s : State) (teams : List Team) → Kept at s teams → at + bytesOf (commandAt file at) ≤ length file → number file at s teams ≡ 0 → isEnd (commandAt file at) ≡ true → P (finished file at s teams)) where
   from : (fuel at : ℕ) (s : State) (teams : List Team) → Kept at s teams → at ≤ length file → length file < at + fuel → P (readFrom fuel file at s teams)
   from zero at s teams k inside enough = absurd (omega arith)
   from (suc fuel) at s teams k inside enough = go (λ z. whole file at s (openTeam teams (s .n)) z) (ℕ-discrete (number file at s teams) 0) (isEnd (commandAt file at)) refl
       (λ (z : number file at s teams ≡ 0) (e : isEnd (commandAt file at) ≡ false) (w : Whole file at (commandAt file at)).
       let command = commandAt file at in
       let some = w .some in
-      from fuel (at + lengthOf command) (changedState s command) (changedTeams teams (changedState s command .n) (changedTeam (openTeam teams (s .n)) command))
+      from fuel (at + bytesOf command) (changedState s command) (changedTeams teams (changedState s command .n) (changedTeam (openTeam teams (s .n)) command))
       (kept-next at s teams command k z e) (w .fits) (omega arith))
     where
       go : (number file at s teams ≡ 0 → Whole file at (commandAt file at)) → Dec (number file at s teams ≡ 0) → (b : Bool) → isEnd (commandAt file at) ≡ b
           → (number file at s teams ≡ 0 → isEnd (commandAt file at) ≡ false → Whole file at (commandAt file at)
-          → P (readFrom fuel file (at + lengthOf (commandAt file at)) (changedState s (commandAt file at)) (changedTeams teams (changedState s (commandAt file at) .n) (changedTeam (openTeam teams (s .n)) (commandAt file at)))))
+          → P (readFrom fuel file (at + bytesOf (commandAt file at)) (changedState s (commandAt file at)) (changedTeams teams (changedState s (commandAt file at) .n) (changedTeam (openTeam teams (s .n)) (commandAt file at)))))
           → P (readFrom (suc fuel) file at s teams)
       go stands (no d) b e rest = rw (step-refused fuel file at s teams d) (at-fault at s teams k inside d)
       go stands (yes z) true e rest = rw (step-end fuel file at s teams z e) (at-end at s teams k (stands z .fits) z e)
       go stands (yes z) false e rest = rw (step-next fuel file at s teams z e) (rest z e (stands z))
 
   -- so of every file that starts with a START byte, and of the refusal of any other
-  all-readings : P (refused 1 0) → P (readPlan file)
+  pub all-readings : P (refused 1 0) → P (readPlan file)
   all-readings none = go (ℕ-discrete (getD file 0 0) 1)
     where
       go : Dec (getD file 0 0 ≡ 1) → P (readPlan file)
@@ -100,7 +102,7 @@ bounded file = all-readings file (Bounded file) at-fault at-end (record { place 
       valid = λ _. record { teams-long = k .teams-long; some = some; few = k .few; small = k .small; team = k .kept };
     }
 
-    at-end : (at : ℕ) (s : State) (teams : List Team) → Kept at s teams → at + lengthOf (commandAt file at) ≤ length file → number file at s teams ≡ 0 → isEnd (commandAt file at) ≡ true → Bounded file (finished file at s teams)
+    at-end : (at : ℕ) (s : State) (teams : List Team) → Kept at s teams → at + bytesOf (commandAt file at) ≤ length file → number file at s teams ≡ 0 → isEnd (commandAt file at) ≡ true → Bounded file (finished file at s teams)
     at-end at s teams k fits z e = ended at s teams k (end-some at s (openTeam teams (s .n)) (commandAt file at) e z) (ltb (at + 1) (length file)) refl
 
 -- ---- a file's first bytes decide its reading
@@ -161,18 +163,18 @@ module _ (file : List ℕ) (w : ℕ) (enough : 3104 ≤ w) (long : w ≤ length 
   same-from (suc fuel) zero at s teams k inside a b = absurd (omega arith)
   same-from (suc fuel) (suc fuel′) at s teams k inside a b =
       go (ℕ-discrete (number file at s teams) 0) (isEnd (commandAt file at)) refl
-      (λ (z : number file at s teams ≡ 0) (e : isEnd (commandAt file at) ≡ false) (some : 0 < lengthOf (commandAt file at)) (fits : at + lengthOf (commandAt file at) ≤ w).
+      (λ (z : number file at s teams ≡ 0) (e : isEnd (commandAt file at) ≡ false) (some : 0 < bytesOf (commandAt file at)) (fits : at + bytesOf (commandAt file at) ≤ w).
       let command = commandAt file at in
-      same-from fuel fuel′ (at + lengthOf command) (changedState s command) (changedTeams teams (changedState s command .n) (changedTeam (openTeam teams (s .n)) command))
+      same-from fuel fuel′ (at + bytesOf command) (changedState s command) (changedTeams teams (changedState s command .n) (changedTeam (openTeam teams (s .n)) command))
       (kept-next at s teams command k z e) fits (omega arith) (omega arith))
     where
       l : at ≤ 3099
       l = kept-at k
 
       go : Dec (number file at s teams ≡ 0) → (b : Bool) → isEnd (commandAt file at) ≡ b
-          → (number file at s teams ≡ 0 → isEnd (commandAt file at) ≡ false → 0 < lengthOf (commandAt file at) → at + lengthOf (commandAt file at) ≤ w
-          → readFrom fuel window (at + lengthOf (commandAt file at)) (changedState s (commandAt file at)) (changedTeams teams (changedState s (commandAt file at) .n) (changedTeam (openTeam teams (s .n)) (commandAt file at)))
-          ≡ readFrom fuel′ file (at + lengthOf (commandAt file at)) (changedState s (commandAt file at)) (changedTeams teams (changedState s (commandAt file at) .n) (changedTeam (openTeam teams (s .n)) (commandAt file at))))
+          → (number file at s teams ≡ 0 → isEnd (commandAt file at) ≡ false → 0 < bytesOf (commandAt file at) → at + bytesOf (commandAt file at) ≤ w
+          → readFrom fuel window (at + bytesOf (commandAt file at)) (changedState s (commandAt file at)) (changedTeams teams (changedState s (commandAt file at) .n) (changedTeam (openTeam teams (s .n)) (commandAt file at)))
+          ≡ readFrom fuel′ file (at + bytesOf (commandAt file at)) (changedState s (commandAt file at)) (changedTeams teams (changedState s (commandAt file at) .n) (changedTeam (openTeam teams (s .n)) (commandAt file at))))
           → readFrom (suc fuel) window at s teams ≡ readFrom (suc fuel′) file at s teams
       go (no d) b e rest =
           step-refused fuel window at s teams (λ z. d (sym (same-number at s teams l) ∙ z))
@@ -185,7 +187,7 @@ module _ (file : List ℕ) (w : ℕ) (enough : 3104 ≤ w) (long : w ≤ length 
       go (yes z) false e rest =
           let there = whole window at s (openTeam teams (s .n)) (same-number at s teams l ∙ z) in
           let len = window-length in
-          let same = ap lengthOf (same-command at l) in
+          let same = ap bytesOf (same-command at l) in
           let fits = there .fits in
           let some = there .some in
           step-next fuel window at s teams (same-number at s teams l ∙ z) (ap isEnd (same-command at l) ∙ e)

@@ -10,13 +10,15 @@ use lib.Dec.{eqb, leb, ltb}
 use lib.ListN.{length, getD, set, replicate, length-set}
 use lib.Seq.{getD-set-same, getD-set-other}
 use borrow.Author.Tests.{ne-eqb, lt-ltb, ltb-true, ltb-false, leb-false, eqb-true, eqb-false, not-false, le-ltb}
-use Rattle.plan.specs.declared.Command.{Command}
-use Rattle.plan.specs.declared.Command.the-variants.{Missing, Unknown, Short, Start, Caps, Loops, Class, Put, Span, End}
-use Rattle.plan.specs.declared.State.{State}
-use Rattle.plan.specs.declared.Team.{Team}
-use Rattle.plan.specs.Command.{capsKind, loopsKind, lengthOf}
-use Rattle.plan.specs.Fault.{named, fault, isEnd}
-use Rattle.plan.specs.Carry.{opened, blankTeam, start, openTeam, changedTeam, changedState}
+use Rattle.command.specs.declared.Command.{Command}
+use Rattle.command.specs.declared.Command.the-variants.{Missing, Unknown, Short, Start, Caps, Loops, Class, Put, Span, End}
+use Rattle.command.specs.declared.State.{State}
+use Rattle.team.specs.declared.Team.{Team}
+use Rattle.command.specs.Command.{bytesOf}
+use Rattle.team.specs.Team.{capsKind, loopsKind}
+use Rattle.command.specs.Fault.{named, fault, isEnd}
+use Rattle.command.specs.Carry.{opened, start, openTeam, changedTeam, changedState}
+use Rattle.team.specs.Team.{blankTeam}
 use Rattle.plan.specs.Read.{changedTeams}
 use Rattle.plan.specs.Valid.{ValidTeam}
 use Rattle.plan.proofs.Tables.{first-holds, namedCount, cappedCount, namedCount-le, namedCount-none, namedCount-more, cappedCount-le, cappedCount-none, cappedCount-more, opened-kept, class-kept, put-kept, span-kept}
@@ -55,9 +57,9 @@ unfolding used
 used-loops s team e = let l = eqb-true (team .kind) loopsKind (not-false (eqb (team .kind) loopsKind) e) in rw (ne-eqb (team .kind) capsKind (omega arith)) refl
 
 -- a team that has just been opened takes two bytes
-used-opened : (s : State) (kind channels : ℕ) → s .capped ≡ replicate 16 false → used s (opened kind channels) ≡ 2
+used-opened : (s : State) (kind channels cap : ℕ) → s .capped ≡ replicate 16 false → used s (opened kind channels cap) ≡ 2
 unfolding used
-used-opened s kind channels e = go (eqb kind capsKind)
+used-opened s kind channels cap e = go (eqb kind capsKind)
   where
     go : (b : Bool) → cond b (2 + 3 * cappedCount (s .capped) + 3 * namedCount (replicate 64 255)) (2 + 4 * namedCount (replicate 64 255)) ≡ 2
     go true = let c = ap cappedCount e ∙ cappedCount-none in let n = namedCount-none in omega arith
@@ -125,7 +127,7 @@ open-some teams n d = go (ltb 0 n) refl d
     go false e d = absurd (d refl)
 
 -- the place of the last team
-changed-last : (teams : List Team) (n : ℕ) (team : Team) → 0 < n → changedTeams teams n team ≡ set teams (n - 1) team
+pub changed-last : (teams : List Team) (n : ℕ) (team : Team) → 0 < n → changedTeams teams n team ≡ set teams (n - 1) team
 changed-last teams n team l = rw (lt-ltb 0 n l) refl
 
 module _ (at : ℕ) (s : State) (teams : List Team) (k : Kept at s teams) where
@@ -163,16 +165,16 @@ module _ (at : ℕ) (s : State) (teams : List Team) (k : Kept at s teams) where
       go (no d) = let most = k .none (omega arith) in omega arith
 
   -- CAPS and LOOPS open a team
-  team-kept : (kind channels : ℕ) → (kind ≡ capsKind) ⊎ (kind ≡ loopsKind) → fault at s (openTeam teams (s .n)) (Caps channels) ≡ 0
-      → Kept (at + 2) (changedState s (Caps channels)) (changedTeams teams (s .n + 1) (opened kind channels))
+  team-kept : (kind channels cap : ℕ) → (kind ≡ capsKind) ⊎ (kind ≡ loopsKind) → fault at s (openTeam teams (s .n)) (Caps channels) ≡ 0
+      → Kept (at + 2) (changedState s (Caps channels)) (changedTeams teams (s .n + 1) (opened kind channels cap))
   unfolding fault changedState
-  team-kept kind channels is e =
+  team-kept kind channels cap is e =
       let (p, _) = first-holds (leb 12 (s .n)) 7 _ (omega arith) e in
       let fewer = leb-false 12 (s .n) p in
       let b = before in
-      let u = used-opened (changedState s (Caps channels)) kind channels refl in
-      rw (changed-last teams (s .n + 1) (opened kind channels) (omega arith))
-      (kept-store at (at + 2) s (changedState s (Caps channels)) teams (opened kind channels) k refl (omega arith) (omega arith) (omega arith) refl (opened-kept (s .m) kind channels is) (omega arith) (omega arith))
+      let u = used-opened (changedState s (Caps channels)) kind channels cap refl in
+      rw (changed-last teams (s .n + 1) (opened kind channels cap) (omega arith))
+      (kept-store at (at + 2) s (changedState s (Caps channels)) teams (opened kind channels cap) k refl (omega arith) (omega arith) (omega arith) refl (opened-kept (s .m) kind channels cap is) (omega arith) (omega arith))
 
   -- a command of the open team, which stays kept and takes no more bytes than the command has
   open-kept : (s′ : State) (team : Team) (w : ℕ) → openTeam teams (s .n) .kind ≢ 255 → s′ .m ≡ s .m → s′ .n ≡ s .n → length (s′ .capped) ≡ 16
@@ -248,14 +250,14 @@ module _ (at : ℕ) (s : State) (teams : List Team) (k : Kept at s teams) where
 
 -- what holds at a command that breaks no rule and is not END holds at the next
 pub kept-next : (at : ℕ) (s : State) (teams : List Team) (command : Command) → Kept at s teams → fault at s (openTeam teams (s .n)) command ≡ 0 → isEnd command ≡ false
-    → Kept (at + lengthOf command) (changedState s command) (changedTeams teams (changedState s command .n) (changedTeam (openTeam teams (s .n)) command))
+    → Kept (at + bytesOf command) (changedState s command) (changedTeams teams (changedState s command .n) (changedTeam (openTeam teams (s .n)) command))
 unfolding fault changedState changedTeam
 kept-next at s teams Missing k e f = absurd (omega arith)
 kept-next at s teams Unknown k e f = absurd (omega arith)
 kept-next at s teams Short k e f = absurd (omega arith)
 kept-next at s teams (Start version m) k e f = start-kept at s teams k version m e
-kept-next at s teams (Caps channels) k e f = team-kept at s teams k capsKind channels (inl refl) e
-kept-next at s teams (Loops channels) k e f = team-kept at s teams k loopsKind channels (inr refl) e
+kept-next at s teams (Caps channels) k e f = team-kept at s teams k capsKind channels 0 (inl refl) e
+kept-next at s teams (Loops channels) k e f = team-kept at s teams k loopsKind channels 255 (inr refl) e
 kept-next at s teams (Class class most) k e f = class-kept-here at s teams k class most e
 kept-next at s teams (Put i class) k e f = put-kept-here at s teams k i class e
 kept-next at s teams (Span i a b) k e f = span-kept-here at s teams k i a b e

@@ -1,8 +1,10 @@
-pub mod Tests
-pub mod Lists
 pub mod Tables
 pub mod Kept
 pub mod Steps
 pub mod Run
-pub mod Called
 pub mod Bounds
+pub mod Valuing
+pub mod Answers
+pub mod Numbers
+pub mod Longest
+pub mod Table

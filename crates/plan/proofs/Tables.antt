@@ -10,12 +10,14 @@ use lib.Dec.{eqb}
 use lib.ListN.{length, getD, set, replicate, length-set, getD-replicate, List·getD-eq-default}
 use lib.Seq.{getD-set-same, getD-set-other}
 use borrow.Author.Tests.{ne-eqb}
-use Rattle.matroid.specs.Set.{Set, one, size, size-change, size-le}
-use Rattle.plan.specs.declared.Command.the-variants.{Class, Put, Span}
-use Rattle.plan.specs.declared.Team.{Team}
-use Rattle.plan.specs.Command.{capsKind, loopsKind}
-use Rattle.plan.specs.Fault.{named}
-use Rattle.plan.specs.Carry.{opened, changedTeam}
+use Rattle.matroid.specs.Set.{Set, one, size}
+use Rattle.matroid.specs.SetLaws.{size-change}
+use Rattle.matroid.proofs.Sets.{size-le}
+use Rattle.command.specs.declared.Command.the-variants.{Class, Put, Span}
+use Rattle.team.specs.declared.Team.{Team}
+use Rattle.team.specs.Team.{capsKind, loopsKind}
+use Rattle.command.specs.Fault.{named}
+use Rattle.command.specs.Carry.{opened, changedTeam}
 use Rattle.plan.specs.Valid.{ValidTeam}
 
 -- ---- what is known where no rule is broken
@@ -91,8 +93,8 @@ pub never : {b : Bool} → b ≡ false → b ≡ true → ⊥
 never f t = false≢true (sym f ∙ t)
 
 -- a team that has just been opened
-pub opened-kept : (m kind channels : ℕ) → (kind ≡ capsKind) ⊎ (kind ≡ loopsKind) → ValidTeam m (opened kind channels)
-opened-kept m kind channels k = record {
+pub opened-kept : (m kind channels cap : ℕ) → (kind ≡ capsKind) ⊎ (kind ≡ loopsKind) → ValidTeam m (opened kind channels cap)
+opened-kept m kind channels cap k = record {
   cap-long = refl;
   class-long = refl;
   first-long = refl;

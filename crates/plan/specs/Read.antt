@@ -5,11 +5,12 @@ use mathlib.Core.List.{List}
 use lib.Dec.{eqb, ltb}
 use lib.ListN.{length, getD, set, replicate}
 use Rattle.plan.specs.declared.Reading.{Reading}
-use Rattle.plan.specs.declared.State.{State}
-use Rattle.plan.specs.declared.Team.{Team}
-use Rattle.plan.specs.Command.{commandAt, lengthOf}
-use Rattle.plan.specs.Fault.{fault, isEnd}
-use Rattle.plan.specs.Carry.{blankTeam, start, openTeam, changedTeam, changedState}
+use Rattle.command.specs.declared.State.{State}
+use Rattle.team.specs.declared.Team.{Team}
+use Rattle.command.specs.Command.{commandAt, bytesOf}
+use Rattle.command.specs.Fault.{fault, isEnd}
+use Rattle.command.specs.Carry.{start, openTeam, changedTeam, changedState}
+use Rattle.team.specs.Team.{blankTeam}
 
 -- a team in an answer that refuses
 abbrev pub zeroTeam : Team
@@ -31,9 +32,10 @@ finished file at s teams = cond (ltb (at + 1) (length file)) (refused 9 (at + 1)
 abbrev pub changedTeams : List Team → ℕ → Team → List Team
 changedTeams teams n team = cond (ltb 0 n) (set teams (n - 1) team) teams
 
--- Reading from an offset on, by at most so many commands: "The first faulty command decides", "the place is the offset of the command".
+-- Reading from an offset on, by at most so many commands: "The first faulty command decides", "The place is the offset of the command". Where
+-- no END is among them: "No END is 2", at "the file's length".
 unfoldable pub readFrom : ℕ → List ℕ → ℕ → State → List Team → Reading
-readFrom zero file at s teams = refused 0 0
+readFrom zero file at s teams = refused 2 (length file)
 readFrom (suc k) file at s teams =
     let command = commandAt file at in
     let team = openTeam teams (s .n) in
@@ -44,7 +46,7 @@ readFrom (suc k) file at s teams =
         | true ↦ finished file at s teams
         | false ↦
             let s′ = changedState s command in
-            readFrom k file (at + lengthOf command) s′ (changedTeams teams (s′ .n) (changedTeam team command))
+            readFrom k file (at + bytesOf command) s′ (changedTeams teams (s′ .n) (changedTeam team command))
       ]
     ]
 

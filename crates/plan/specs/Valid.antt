@@ -5,10 +5,10 @@ use mathlib.Core.Bool.{true, false}
 use mathlib.Core.Logic.{_⊎_, _≢_}
 use lib.ListN.{length, getD}
 use Rattle.plan.specs.declared.Reading.{Reading}
-use Rattle.plan.specs.declared.Team.{Team}
-use Rattle.plan.specs.Command.{capsKind, loopsKind}
-use Rattle.plan.specs.Fault.{named}
-use Rattle.plan.specs.Carry.{blankTeam}
+use Rattle.team.specs.declared.Team.{Team}
+use Rattle.team.specs.Team.{capsKind, loopsKind}
+use Rattle.command.specs.Fault.{named}
+use Rattle.team.specs.Team.{blankTeam}
 
 -- the tables of a team of the plan, among m instruments
 pub record ValidTeam (m : ℕ) (team : Team) : Type 0 where

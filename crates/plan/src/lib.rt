@@ -1,48 +1,17 @@
 // The plan file: commands of one byte with operands of one byte, read into twelve teams.
 ghost use mathlib.Core.Path.{_≡_};
+ghost use lib.ListN.{getD};
 ghost use Rattle.plan.specs.Read.{readPlan, refused, finished};
+ghost use Rattle.plan.specs.Teams.{valuationsOf};
+ghost use Rattle.plan.specs.Valid.{Valid};
+ghost use Rattle.plan.specs.Worth.{worthAnswer};
+use command::State;
+use command::decode;
+use command::reader::Reader;
+use kinds::Valuation;
+use team::Team;
 
-pub mod carry;
-pub mod decode;
-pub mod judge;
-pub mod reader;
-
-// What stands at an offset of the file.
-pub enum Command {
-    // The file ends here.
-    Missing,
-    // The byte is no command's.
-    Unknown,
-    // The file ends before the command's last operand.
-    Short,
-    Start(u8, u8),
-    Caps(u8),
-    Loops(u8),
-    Class(u8, u8),
-    Put(u8, u8),
-    Span(u8, u8, u8),
-    End,
-}
-
-// A team's kind (the byte that opens it) and operands. 255 stands wherever the file names nothing; a class with no CLASS has cap 0.
-pub struct Team {
-    pub kind: u8,
-    pub channels: u8,
-    // the cap of each class
-    pub cap: [u8; 16],
-    // the class of each instrument
-    pub class: [u8; 64],
-    // the two joints of each instrument's span
-    pub first: [u8; 64],
-    pub second: [u8; 64],
-}
-
-// What has been read besides the teams: the count of instruments, the count of teams, and which classes of the open team are capped.
-pub struct State {
-    pub m: usize,
-    pub n: usize,
-    pub capped: [bool; 16],
-}
+mod step;
 
 // What reading a file comes to. After a refusal all but its number and place is 0.
 pub struct Reading {
@@ -92,34 +61,81 @@ fn finish(file: &[u8], at: usize, s: State, teams: [Team; 12]) -> Reading
     }
 }
 
-// Reads a plan file: a reader hands out command after command, until one breaks a rule or is an END in its place.
+// Reads the commands of a file whose first byte is 01: a reader hands out one after another, until one breaks a rule or is an END in its
+// place. It holds the reader, so it is proved by hand, and `step` does the work.
+fn read_commands(file: &[u8]) -> Reading
+    requires { ⌜ getD (now file) 0 0 ≡ 1 ⌝ }
+    ensures { λ r. ⌜ r ≡ readPlan (now (file .entry)) ⌝ }
+{
+    let mut reader = Reader::new(file);
+    let mut p = step::begin();
+    let mut closed = step::none();
+    loop {
+        let at = reader.at;
+        let next = reader.next();
+        let command = next.command;
+        if step::stops(at, p, command) {
+            return step::answer(file, at, p, closed, command);
+        }
+        if step::opens(command) {
+            closed = step::close(closed, p);
+        }
+        p = step::carry_out(p, command);
+        reader = next.reader;
+    }
+}
+
+// Reads a plan file.
 pub fn read(file: &[u8]) -> Reading
     ensures { λ r. ⌜ r ≡ readPlan (now (file .entry)) ⌝ }
 {
     if decode::byte_at(file, 0) != 1 {
         return refuse(1, 0);
     }
-    let mut at: usize = 0;
-    let mut s = carry::nothing();
-    let mut current = carry::blank();
-    let mut teams = [current; 12];
-    loop {
-        let found = reader::next_command(file, at);
-        let command = found.command;
-        let fault = judge::fault_of(at, s, current, command);
-        if fault != 0 {
-            return refuse(fault, at);
+    read_commands(file)
+}
+
+// The valuation of each team of a plan, and one of no kind beyond the last.
+pub fn valuations_of(r: Reading) -> [Valuation; 12]
+    requires { ⌜ Valid r ⌝ }
+    ensures { λ v. ⌜ v ≡ valuationsOf r ⌝ }
+{
+    let n = r.n;
+    let teams = r.teams;
+    let usable = sets::all_below(r.m);
+    let none = kinds::blank();
+    let mut valuations = [none; 12];
+    for t in 0..12usize {
+        if t < n {
+            let team = teams[t];
+            valuations[t] = Valuation {
+                team,
+                usable,
+                glued: 0,
+            };
         }
-        if judge::is_end(command) {
-            return finish(file, at, s, teams);
-        }
-        let team = carry::changed_team(current, command);
-        s = carry::changed_state(s, command);
-        let k = s.n;
-        if 0 < k {
-            teams[k - 1] = team;
-            current = team;
-        }
-        at = found.end;
     }
+    valuations
+}
+
+// What Worth answers.
+pub enum Answer {
+    Refused(usize, usize),
+    Worth(usize),
+}
+
+// Worth, on the bytes of a plan: what a set is worth to a team of it.
+pub fn worth(file: &[u8], team: usize, set: u64) -> Answer
+    ensures { λ r. ⌜ r ≡ worthAnswer (now (file .entry)) team set ⌝ }
+{
+    let r = read(file);
+    if r.refusal != 0 {
+        return Answer::Refused(r.refusal, r.place);
+    }
+    if team >= r.n {
+        return Answer::Worth(0);
+    }
+    let valuations = valuations_of(r);
+    let valuation = valuations[team];
+    Answer::Worth(kinds::worth_of(valuation, r.m, set))
 }

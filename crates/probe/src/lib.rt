@@ -1,7 +1,7 @@
 // For benchmarks: worth and gains of one team of a plan, called one time after another on sets that change, the answers added up.
 ghost use Prim.Native.Nat.{_≤_};
+use kinds::Valuation;
 use plan::Reading;
-use plan::Team;
 use std::num::wrapping_add_u64;
 
 // The word after x, by three shifts.
@@ -14,7 +14,7 @@ fn next(x: u64) -> u64 {
 const FIRST: u64 = 88172645463325252;
 
 // The worths of that many words.
-fn worths(team: Team, m: usize, rounds: u64) -> u64
+fn worths(v: Valuation, m: usize, rounds: u64) -> u64
     requires { ⌜ m ≤ 64 ⌝ }
 {
     let mut word = FIRST;
@@ -22,7 +22,7 @@ fn worths(team: Team, m: usize, rounds: u64) -> u64
     let mut k: u64 = 0;
     while k < rounds {
         word = next(word);
-        sum = wrapping_add_u64(sum, kinds::worth_of(team, m, word) as u64);
+        sum = wrapping_add_u64(sum, kinds::worth_of(v, m, word) as u64);
         k += 1;
     }
     sum
@@ -44,7 +44,7 @@ fn grown(set: u64, gains: u64, word: u64) -> u64 {
 }
 
 // The gains of that many independent sets, each grown from the one before.
-fn gains(team: Team, m: usize, rounds: u64) -> u64
+fn gains(v: Valuation, m: usize, rounds: u64) -> u64
     requires { ⌜ m ≤ 64 ⌝ }
 {
     let mut word = FIRST;
@@ -53,22 +53,12 @@ fn gains(team: Team, m: usize, rounds: u64) -> u64
     let mut k: u64 = 0;
     while k < rounds {
         word = next(word);
-        let joining = kinds::gains_of(team, m, set);
+        let joining = kinds::gains_of(v, m, set);
         sum = wrapping_add_u64(sum, joining);
         set = grown(set, joining, word);
         k += 1;
     }
     sum
-}
-
-// The team of a reading, and one of no kind where there is none.
-fn team_of(r: Reading, team: u64) -> Team {
-    let teams = r.teams;
-    if team < 12 {
-        teams[team as usize]
-    } else {
-        plan::carry::blank()
-    }
 }
 
 // A count of instruments: a plan has no more than 64.
@@ -78,16 +68,30 @@ fn count_of(r: Reading) -> usize
     if r.m < 64 { r.m } else { 64 }
 }
 
+// The valuation of a team of a reading, and one of no kind where there is none.
+fn valuation_of(r: Reading, team: u64) -> Valuation {
+    let teams = r.teams;
+    if team >= 12 {
+        return kinds::blank();
+    }
+    let own = teams[team as usize];
+    Valuation {
+        team: own,
+        usable: sets::all_below(count_of(r)),
+        glued: 0,
+    }
+}
+
 // The worths of that many sets to a team, added up. A refused plan's teams have no kind.
 #[no_mangle]
 pub extern "C" fn probe_worth(file: &[u8], team: u64, rounds: u64) -> u64 {
     let r = plan::read(file);
-    worths(team_of(r, team), count_of(r), rounds)
+    worths(valuation_of(r, team), count_of(r), rounds)
 }
 
 // The gains of that many independent sets of a team, added up.
 #[no_mangle]
 pub extern "C" fn probe_gains(file: &[u8], team: u64, rounds: u64) -> u64 {
     let r = plan::read(file);
-    gains(team_of(r, team), count_of(r), rounds)
+    gains(valuation_of(r, team), count_of(r), rounds)
 }

@@ -1,7 +1,7 @@
-// Document 01's words for independence, worth and gains, each followed as it stands. A closed loop is looked for by trimming: where a
-// joint has one gauge only, that gauge is in no loop.
+// For tests: independence, worth and gains as document 01 defines them, computed in other ways than the crate `kinds` uses. A worth is found by
+// trying each part of a set; a closed loop by trimming: where a joint has one gauge only, that gauge is in no loop.
 ghost use Prim.Native.Nat.{_≤_};
-use plan::Team;
+use team::Team;
 
 // The members of a set that are of a class.
 fn of_class(class: [u8; 64], set: u64, c: usize) -> u64 {
@@ -213,17 +213,17 @@ pub fn gains(team: Team, m: usize, set: u64) -> u64
     joining
 }
 
-// An independent part of the members below m: each, in rising order, that keeps it so.
-pub fn standing(team: Team, m: usize, set: u64) -> u64
+// An independent set with members of another below m: each, in rising order, that keeps it independent.
+pub fn joined(team: Team, m: usize, start: u64, set: u64) -> u64
     requires { ⌜ m ≤ 64 ⌝ }
 {
-    let mut part: u64 = 0;
+    let mut larger = start;
     for g in 0..m {
         if sets::member(set, g) {
-            if independent(team, sets::with(part, g)) {
-                part = sets::with(part, g);
+            if independent(team, sets::with(larger, g)) {
+                larger = sets::with(larger, g);
             }
         }
     }
-    part
+    larger
 }

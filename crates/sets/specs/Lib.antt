@@ -1,4 +1,5 @@
+-- Definition to believe: Bits (the set that a word stands for). Lowest, Bundles and Joining have the words of contracts.
 pub mod Bits
-pub mod Words
 pub mod Lowest
-pub mod Below
+pub mod Bundles
+pub mod Joining

@@ -1,5 +1,6 @@
 // A set of instruments as a 64-bit word: bit k stands for instrument k.
 ghost use mathlib.Core.Path.{_≡_};
+ghost use mathlib.Core.Bool.{_&&_, not};
 ghost use Prim.Native.Nat.{ℕ, _<_, _≤_};
 ghost use Rattle.matroid.specs.Set.{_∪_, _∩_, _∖_, only, with, without, under, size};
 ghost use Rattle.sets.specs.Bits.{bit};
@@ -82,4 +83,27 @@ pub fn size(s: u64) -> usize
     ensures { λ r. ⌜ r ≡ size 64 (bit s) ⌝ }
 {
     u64::count_ones(s) as usize
+}
+
+// The members of a set below m that are not in another.
+pub fn candidates(m: usize, set: u64, from: u64) -> u64
+    requires { ⌜ m ≤ 64 ⌝ }
+    ensures { λ r. ⌜ ((j : ℕ) → bit r j ≡ ((bit from j && under m j) && not (bit set j))) ⌝ }
+{
+    minus(both(from, all_below(m)), set)
+}
+
+// How many members of a set are below m.
+pub fn size_below(m: usize, set: u64) -> usize
+    requires { ⌜ m ≤ 64 ⌝ }
+    ensures { λ r. ⌜ r ≡ size m (bit set) ⌝ }
+{
+    size(both(set, all_below(m)))
+}
+
+// A byte as a number.
+pub fn wide(byte: u8) -> usize
+    ensures { λ r. ⌜ r ≡ byte ⌝ }
+{
+    byte as usize
 }

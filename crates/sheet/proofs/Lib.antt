@@ -1,6 +1,6 @@
-pub mod Tests
 pub mod Faults
 pub mod Commands
+pub mod Places
 pub mod Sizes
 pub mod Numbers
 pub mod Naming

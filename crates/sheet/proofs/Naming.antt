@@ -13,14 +13,14 @@ use lib.Pow.{pow-pos}
 use borrow.Author.Tests.{lt-ltb, le-ltb, eq-eqb, ne-eqb}
 use Rattle.matroid.specs.Set.{with}
 use Rattle.sets.specs.Bits.{bit}
-use Rattle.sets.specs.Words.{bit-high}
-use Rattle.sheet.specs.Named.{Words}
+use Rattle.sets.proofs.Words.{bit-high}
+use Rattle.sets.specs.Bundles.{Bundles}
 
 -- no instrument is in any word at first
-pub words-none : (D : ℕ → ℕ) → Words 0 D (replicate 12 0)
+pub words-none : (D : ℕ → ℕ) → Bundles 0 D (replicate 12 0)
 words-none D = record { long = refl; at = λ t l j. rw (getD-replicate {A = ℕ} 12 t 0 0 l, le-ltb j 0 (omega arith)) (bit-high 0 j (pow-pos j)) }
 
-module _ (D : ℕ → ℕ) (g : ℕ) (words : List ℕ) (w : Words g D words) where
+module _ (D : ℕ → ℕ) (g : ℕ) (words : List ℕ) (w : Bundles g D words) where
   -- below g + 1, apart from g, is below g
   other : (j : ℕ) → j ≢ g → ltb j (g + 1) ≡ ltb j g
   other j d = elim (decLt j g) [
@@ -34,11 +34,11 @@ module _ (D : ℕ → ℕ) (g : ℕ) (words : List ℕ) (w : Words g D words) wh
   away t d j (no d′) = ap (λ (b : Bool). b && eqb (D j) t) (sym (other j d′))
 
   -- an instrument that goes to none of the twelve changes no word
-  pub words-skip : 12 ≤ D g → Words (g + 1) D words
+  pub words-skip : 12 ≤ D g → Bundles (g + 1) D words
   words-skip h = record { long = w .long; at = λ t l j. w .at t l j ∙ away t (λ e. omega arith) j (ℕ-discrete j g) }
 
   -- an instrument joins the word of what it goes to
-  pub words-put : (k word : ℕ) (next : List ℕ) → k ≡ D g → k < 12 → ((j : ℕ) → bit word j ≡ with (bit (getD words k 0)) g j) → next ≡ set words k word → Words (g + 1) D next
+  pub words-put : (k word : ℕ) (next : List ℕ) → k ≡ D g → k < 12 → ((j : ℕ) → bit word j ≡ with (bit (getD words k 0)) g j) → next ≡ set words k word → Bundles (g + 1) D next
   words-put k word next is small h e = rw e (record { long = length-set words k word ∙ w .long; at = λ t l j. go t l j (ℕ-discrete t k) })
     where
       wide : length words ≡ 12
@@ -54,7 +54,7 @@ module _ (D : ℕ → ℕ) (g : ℕ) (words : List ℕ) (w : Words g D words) wh
       go t l j (no differ) = rw (getD-set-other words k t word 0 differ) (w .at t l j ∙ away t (λ e. differ (sym e ∙ sym is)) j (ℕ-discrete j g))
 
 -- words go by what is named below m
-pub words-agree : (m : ℕ) (D E : ℕ → ℕ) (words : List ℕ) → ((g : ℕ) → g < m → D g ≡ E g) → Words m D words → Words m E words
+pub words-agree : (m : ℕ) (D E : ℕ → ℕ) (words : List ℕ) → ((g : ℕ) → g < m → D g ≡ E g) → Bundles m D words → Bundles m E words
 words-agree m D E words h w = record { long = w .long; at = λ t l j. w .at t l j ∙ go t j (decLt j m) }
   where
     go : (t j : ℕ) → Dec (j < m) → (ltb j m && eqb (D j) t) ≡ (ltb j m && eqb (E j) t)

@@ -18,8 +18,8 @@ pub record PagesPass (m n : ℕ) (s : List ℕ) (t at : ℕ) : Type 0 where
   pub passes : Passes (each t (page m n)) s (4 + 3 * m + 9)
 
 module _ (m n : ℕ) (s : List ℕ) where
-  pub pages-none : PagesPass m n s 0 (4 + 3 * m + 9)
-  pages-none = record { here = omega arith; passes = each-none s (page m n) (11 + 3 * m) (page-length m n) (4 + 3 * m + 9) }
+  pub pages-none : (at : ℕ) → at ≡ 4 + 3 * m → PagesPass m n s 0 (at + 9)
+  pages-none at e = record { here = omega arith; passes = each-none s (page m n) (11 + 3 * m) (page-length m n) (4 + 3 * m + 9) }
 
   module _ (t at r : ℕ) (h : PagesPass m n s t at) (is-r : r ≡ firstFault (page m n t) s at) where
     pub pages-stop : t < n → r < at + (11 + 3 * m) → r ≡ firstFault (each n (page m n) ++ end) s (4 + 3 * m + 9)
@@ -74,15 +74,18 @@ module _ (m n : ℕ) (s : List ℕ) where
           piece-past s (head m n) _ 0 4 g h 4 refl is-h head-passes refl
           (piece-stop s (each m (give n)) _ 4 g (3 * m) gives-length is-g l)
 
-      module _ (gives-pass : 4 + 3 * m ≤ g) (b : ℕ) (is-b : b ≡ firstFault (bound m) s (4 + 3 * m)) where
+      module _ (gives-pass : 4 + 3 * m ≤ g) (b at : ℕ) (is-at : at ≡ 4 + 3 * m) (is-b : b ≡ firstFault (bound m) s at) where
+        bound-is : b ≡ firstFault (bound m) s (4 + 3 * m)
+        bound-is = is-b ∙ ap (firstFault (bound m) s) is-at
+
         past-gives : (r : ℕ) → r ≡ firstFault (bound m ++ (each n (page m n) ++ end)) s (4 + 3 * m) → r ≡ firstFault (form m n) s 0
         unfolding form
         past-gives r e =
             piece-past s (head m n) _ 0 4 r h 4 refl is-h head-passes refl
             (piece-past s (each m (give n)) _ 4 (4 + 3 * m) r g (3 * m) gives-length is-g gives-pass refl e)
 
-        pub form-bound : b < 4 + 3 * m + 9 → b ≡ firstFault (form m n) s 0
-        form-bound l = past-gives b (piece-stop s (bound m) _ (4 + 3 * m) b 9 bound-length is-b l)
+        pub form-bound : b < at + 9 → b ≡ firstFault (form m n) s 0
+        form-bound l = past-gives b (piece-stop s (bound m) _ (4 + 3 * m) b 9 bound-length bound-is (omega arith))
 
-        pub form-pages : 4 + 3 * m + 9 ≤ b → (r : ℕ) → r ≡ firstFault (each n (page m n) ++ end) s (4 + 3 * m + 9) → r ≡ firstFault (form m n) s 0
-        form-pages l r e = past-gives r (piece-past s (bound m) _ (4 + 3 * m) (4 + 3 * m + 9) r b 9 bound-length is-b l refl e)
+        pub form-pages : at + 9 ≤ b → (r : ℕ) → r ≡ firstFault (each n (page m n) ++ end) s (4 + 3 * m + 9) → r ≡ firstFault (form m n) s 0
+        form-pages l r e = past-gives r (piece-past s (bound m) _ (4 + 3 * m) (4 + 3 * m + 9) r b 9 bound-length bound-is (omega arith) refl e)

@@ -3,7 +3,8 @@ use Prim.Native.Nat.{ℕ, suc, _+_, _*_, _≤_, _<_}
 use mathlib.Core.Path.{_≡_, refl}
 use native.Mathlib.Omega.{arith}
 use native.Mathlib.Nat.{mul-le-mul, mul-le-mul-right}
-use Rattle.sheet.specs.Layout.{lengthOf, shareStart, end-last}
+use Rattle.sheet.specs.Layout.{lengthOf, shareStart}
+use Rattle.sheet.proofs.Places.{end-last}
 
 -- a product of numbers that are at most 64 and 12
 pub small-product : (m n : ℕ) → m ≤ 64 → n ≤ 12 → m * n ≤ 768

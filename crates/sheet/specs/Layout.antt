@@ -1,8 +1,6 @@
 -- Where the commands of a sheet stand (document 01, "The sheet"), for m instruments and n teams.
 -- "Order: HEAD; m GIVEs by instrument; BOUND; then for each team by number its SHARE and m PARTs by instrument; END."
 use Prim.Native.Nat.{ℕ, _+_, _*_}
-use mathlib.Core.Path.{_≡_, refl}
-use native.Mathlib.Omega.{arith}
 
 -- "Length L = 14 + 11 × n + 3 × m × (n + 1)"
 unfoldable pub lengthOf : (m n : ℕ) → ℕ
@@ -29,30 +27,3 @@ shareStart m t = 4 + 3 * m + 9 + t * pageLength m
 -- the PART of instrument g, after the SHARE of team t and the PARTs before it
 abbrev pub partStart : (m t g : ℕ) → ℕ
 partStart m t g = shareStart m t + 11 + 3 * g
-
--- END stands where a team more would start, and is the last byte
-pub end-last : (m n : ℕ) → lengthOf m n ≡ shareStart m n + 1
-unfolding lengthOf shareStart
-end-last m n = omega arith
-
--- the first team's SHARE follows BOUND, and each other team's the bytes of the team before it
-pub share-first : (m : ℕ) → shareStart m 0 ≡ 4 + 3 * m + 9
-unfolding shareStart
-share-first m = omega arith
-
-pub share-next : (m t : ℕ) → shareStart m (t + 1) ≡ shareStart m t + pageLength m
-unfolding shareStart
-share-next m t = omega arith
-
--- "L is 25 for m = 0, n = 1; 54 for plan A; 2,642 for m = 64, n = 12."
-pub length-least : lengthOf 0 1 ≡ 25
-unfolding lengthOf
-length-least = refl
-
-pub length-plan-A : lengthOf 2 2 ≡ 54
-unfolding lengthOf
-length-plan-A = refl
-
-pub length-most : lengthOf 64 12 ≡ 2642
-unfolding lengthOf
-length-most = refl

@@ -6,9 +6,11 @@ ghost use Prim.Native.Nat.{_+_, _*_, _^_, _≤_};
 ghost use lib.Dec.{ltb};
 ghost use lib.ListN.{length};
 ghost use Rattle.matroid.specs.Cuts.{each};
-ghost use Rattle.sheet.specs.Layout.{lengthOf};
+ghost use Rattle.sheet.specs.Layout.{lengthOf, giveStart, boundStart};
 ghost use Rattle.sheet.specs.Form.{command, head, give, bound, part, page, end, set, form, firstFault};
-use super::wide;
+use super::bound_start;
+use super::give_start;
+use sets::wide;
 
 // Whether a byte has no bit from `room` on.
 fn clear(byte: u8, room: usize) -> bool
@@ -83,16 +85,17 @@ fn give(sheet: &[u8], at: usize, n: usize, g: usize) -> usize
 
 // The GIVEs of m instruments, after HEAD.
 fn gives(sheet: &[u8], m: usize, n: usize) -> usize
-    requires { ⌜ 4 + 3 * m ≤ length (now sheet) ⌝ }
-    ensures { λ r. ⌜ r ≡ firstFault (each m (give n)) (now (sheet .entry)) 4 ⌝ }
+    requires { ⌜ (m ≤ 64) × (boundStart m ≤ length (now sheet)) ⌝ }
+    ensures { λ r. ⌜ r ≡ firstFault (each m (give n)) (now (sheet .entry)) (giveStart 0) ⌝ }
 {
     for g in 0..m {
-        let next = give(sheet, 4 + 3 * g, n, g);
-        if next < 4 + 3 * g + 3 {
+        let at = give_start(g);
+        let next = give(sheet, at, n, g);
+        if next < at + 3 {
             return next;
         }
     }
-    4 + 3 * m
+    bound_start(m)
 }
 
 // BOUND.
@@ -154,10 +157,10 @@ fn page(sheet: &[u8], at: usize, m: usize, n: usize, t: usize) -> usize
 // What n teams state, and END.
 fn pages(sheet: &[u8], m: usize, n: usize) -> usize
     requires { ⌜ (m ≤ 64) × (n ≤ 12) × (lengthOf m n ≤ length (now sheet)) ⌝ }
-    ensures { λ r. ⌜ r ≡ firstFault (each n (page m n) ++ end) (now (sheet .entry)) (4 + 3 * m + 9) ⌝ }
+    ensures { λ r. ⌜ r ≡ firstFault (each n (page m n) ++ end) (now (sheet .entry)) (boundStart m + 9) ⌝ }
 {
     let width = 11 + 3 * m;
-    let mut at = 4 + 3 * m + 9;
+    let mut at = bound_start(m) + 9;
     for t in 0..n {
         let next = page(sheet, at, m, n, t);
         if next < at + width {
@@ -180,12 +183,13 @@ pub fn first_fault(sheet: &[u8], m: usize, n: usize) -> usize
     if next < 4 {
         return next;
     }
+    let at = bound_start(m);
     let next = gives(sheet, m, n);
-    if next < 4 + 3 * m {
+    if next < at {
         return next;
     }
-    let next = bound(sheet, 4 + 3 * m, m);
-    if next < 4 + 3 * m + 9 {
+    let next = bound(sheet, at, m);
+    if next < at + 9 {
         return next;
     }
     pages(sheet, m, n)

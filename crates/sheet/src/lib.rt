@@ -2,9 +2,10 @@
 ghost use mathlib.Core.Path.{_≡_};
 ghost use Prim.Native.Nat.{_+_, _*_, _≤_};
 ghost use lib.ListN.{length};
-ghost use Rattle.sheet.specs.Layout.{lengthOf, shareStart};
+ghost use Rattle.sets.specs.Bundles.{Bundles};
+ghost use Rattle.sheet.specs.Layout.{lengthOf, giveStart, boundStart, shareStart};
 ghost use Rattle.sheet.specs.Fields.{wordAt};
-ghost use Rattle.sheet.specs.Named.{named, Words};
+ghost use Rattle.sheet.specs.Named.{named};
 
 pub mod form;
 
@@ -16,19 +17,28 @@ pub fn length(m: usize, n: usize) -> usize
     14 + 11 * n + 3 * m * (n + 1)
 }
 
+// The offset of the GIVE of instrument g.
+pub fn give_start(g: usize) -> usize
+    requires { ⌜ g ≤ 64 ⌝ }
+    ensures { λ r. ⌜ r ≡ giveStart g ⌝ }
+{
+    4 + 3 * g
+}
+
+// The offset of BOUND.
+pub fn bound_start(m: usize) -> usize
+    requires { ⌜ m ≤ 64 ⌝ }
+    ensures { λ r. ⌜ r ≡ boundStart m ⌝ }
+{
+    4 + 3 * m
+}
+
 // The offset of the SHARE of team t.
 pub fn share_start(m: usize, t: usize) -> usize
     requires { ⌜ (m ≤ 64) × (t ≤ 12) ⌝ }
     ensures { λ r. ⌜ r ≡ shareStart m t ⌝ }
 {
-    4 + 3 * m + 9 + t * (11 + 3 * m)
-}
-
-// A byte as a number.
-pub fn wide(byte: u8) -> usize
-    ensures { λ r. ⌜ r ≡ byte ⌝ }
-{
-    byte as usize
+    bound_start(m) + 9 + t * (11 + 3 * m)
 }
 
 // The set whose 8 bytes stand at an offset.
@@ -46,11 +56,11 @@ pub fn word_at(sheet: &[u8], at: usize) -> u64
 // What each of twelve gets of a row of m GIVEs or PARTs.
 pub fn words(row: &[u8], m: usize) -> [u64; 12]
     requires { ⌜ (m ≤ 64) × (3 * m ≤ length (now row)) ⌝ }
-    ensures { λ r. ⌜ Words m (named (now (row .entry))) r ⌝ }
+    ensures { λ r. ⌜ Bundles m (named (now (row .entry))) r ⌝ }
 {
     let mut words = [0u64; 12];
     for g in 0..m {
-        let t = row[3 * g + 2] as usize;
+        let t = sets::wide(row[3 * g + 2]);
         if t < 12 {
             words[t] = sets::with(words[t], g);
         }

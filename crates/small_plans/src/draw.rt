@@ -1,6 +1,6 @@
 // Random small plans. The numbers are those of Lehmer's generator; each function hands on the last number that it drew.
 ghost use Prim.Native.Nat.{_≤_};
-use plan::Team;
+use team::Team;
 
 // What each part of a plan is drawn from: eight bytes for the count of instruments, the count of teams, and a team's kind, channels,
 // classes, caps and joints.

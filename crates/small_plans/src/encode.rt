@@ -2,7 +2,7 @@
 // space takes no byte more.
 ghost use Prim.Native.Nat.{_≤_};
 use crate::draw::Drawing;
-use plan::Team;
+use team::Team;
 
 // One byte.
 fn byte(out: &mut [u8; 128], at: usize, value: u8) -> usize {

@@ -2,8 +2,8 @@
 // 32 entries for each of four teams, by set; a team that is not in the plan has zeros.
 ghost use Prim.Native.Nat.{_≤_, _<_};
 use crate::draw::Drawing;
-use plan::Team;
 use std::num::wrapping_add_u64;
+use team::Team;
 
 // What the search finds of a plan of m instruments and n teams: the table of worths, the greatest total, the bundles of the first division
 // that comes to it, and each team's share.

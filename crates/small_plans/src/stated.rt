@@ -1,6 +1,6 @@
 // What the bytes of a sheet state: the total, the division and the shares. A byte past the end counts as 0.
 ghost use Prim.Native.Nat.{_≤_};
-use plan::decode::byte_at;
+use command::decode::byte_at;
 
 // The total, what each of four teams holds, and the share of each.
 pub struct Stated {
@@ -15,7 +15,7 @@ fn bundles(sheet: &[u8], m: usize) -> [u64; 4]
 {
     let mut bundle = [0u64; 4];
     for g in 0..m {
-        let t = byte_at(sheet, 4 + 3 * g + 2) as usize;
+        let t = byte_at(sheet, sheet::give_start(g) + 2) as usize;
         if t < 4 {
             bundle[t] = sets::with(bundle[t], g);
         }
@@ -28,10 +28,8 @@ fn shares(sheet: &[u8], m: usize, n: usize) -> [u64; 4]
     requires { ⌜ (m ≤ 5) × (n ≤ 3) ⌝ }
 {
     let mut share = [0u64; 4];
-    let mut at = 4 + 3 * m + 9;
     for t in 0..n {
-        share[t] = byte_at(sheet, at + 2) as u64;
-        at += 11 + 3 * m;
+        share[t] = byte_at(sheet, sheet::share_start(m, t) + 2) as u64;
     }
     share
 }

@@ -1,28 +1,30 @@
 // The verb `team HEX`: a count of instruments, a kind, a set of eight bytes, and then commands as a plan has them, with any operands.
 ghost use Prim.Native.Nat.{_≤_};
+use crate::defined;
+use command::Command;
+use kinds::Valuation;
 use lines::print;
-use plan::Command;
-use plan::Team;
+use team::Team;
 
 // How many bytes a command has: at most four.
 fn width(command: Command) -> usize
     ensures { λ r. ⌜ r ≤ 4 ⌝ }
 {
-    let w = plan::decode::width(command);
+    let w = command::decode::width(command);
     if w < 4 { w } else { 4 }
 }
 
 // The team that the commands after the tenth byte fill, by no rule but the tables' sizes.
 fn filled(bytes: &[u8]) -> Team {
-    let mut team = plan::carry::blank();
+    let mut team = team::blank();
     let mut at: usize = 10;
     while at < bytes.len() {
-        let command = plan::decode::command_at(bytes, at);
+        let command = command::decode::command_at(bytes, at);
         let w = width(command);
         if w == 0 {
             return team;
         }
-        team = plan::carry::changed_team(team, command);
+        team = command::carry::changed_team(team, command);
         at += w;
     }
     team
@@ -32,7 +34,7 @@ fn filled(bytes: &[u8]) -> Team {
 fn set_of(bytes: &[u8]) -> u64 {
     let mut set: u64 = 0;
     for k in 0..8usize {
-        let byte = plan::decode::byte_at(bytes, 9 - k);
+        let byte = command::decode::byte_at(bytes, 9 - k);
         set = set << 8 | byte as u64;
     }
     set
@@ -49,13 +51,13 @@ fn count(byte: u8) -> usize
 }
 
 // The worth, with a mark where the definition of a set of at most seven members says another.
-fn show_worth(team: Team, m: usize, set: u64)
+fn show_worth(v: Valuation, m: usize, set: u64)
     requires { ⌜ m ≤ 64 ⌝ }
 {
-    let answer = kinds::worth_of(team, m, set);
-    print::marked(b"worth ", answer as u64);
+    let answer = kinds::worth_of(v, m, set) as u64;
+    print::marked(b"worth ", answer);
     if sets::size(rule::below(m, set)) < 8 {
-        if answer != rule::worth(team, m, set) {
+        if answer != defined::worth(v, m, set) {
             print::text(b" DIFFERS");
         }
     }
@@ -71,17 +73,18 @@ fn members(set: u64) {
 }
 
 // What an independent set gains, with a mark where the definition says another.
-fn show_gains(team: Team, m: usize, set: u64)
+fn show_gains(v: Valuation, m: usize, set: u64)
     requires { ⌜ m ≤ 64 ⌝ }
 {
+    let team = v.team;
     if !rule::independent(team, rule::below(m, set)) {
         print::text(b", not independent");
         return;
     }
-    let answer = kinds::gains_of(team, m, set);
+    let answer = kinds::gains_of(v, m, set);
     print::text(b", gains");
     members(answer);
-    if answer != rule::gains(team, m, set) {
+    if answer != defined::gains(v, m, set) {
         print::text(b" DIFFERS");
     }
 }
@@ -91,10 +94,15 @@ pub fn answer(hex: &[u8]) {
     let mut space = io::buffer();
     let k = lines::decode(hex, &mut space);
     let bytes = &space[..k];
-    let m = count(plan::decode::byte_at(bytes, 0));
+    let m = count(command::decode::byte_at(bytes, 0));
     let set = set_of(bytes);
     let mut team = filled(bytes);
-    team.kind = plan::decode::byte_at(bytes, 1);
-    show_worth(team, m, set);
-    show_gains(team, m, set);
+    team.kind = command::decode::byte_at(bytes, 1);
+    let valuation = Valuation {
+        team,
+        usable: sets::all_below(m),
+        glued: 0,
+    };
+    show_worth(valuation, m, set);
+    show_gains(valuation, m, set);
 }

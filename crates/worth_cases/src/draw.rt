@@ -1,6 +1,7 @@
-// Random teams and sets. The numbers are those of Lehmer's generator; each function hands on the last number that it drew.
+// Random valuations and sets. The numbers are those of Lehmer's generator; each function hands on the last number that it drew.
 ghost use Prim.Native.Nat.{_≤_, _<_};
-use plan::Team;
+use kinds::Valuation;
+use team::Team;
 
 // What each part of a case is drawn from: eight bytes for the kind, the count of instruments, the channels, a class, a cap and a joint.
 pub struct Family {
@@ -24,9 +25,15 @@ struct Word {
     x: u64,
 }
 
-// A team, a count of instruments and a set, and the last number drawn for them.
+// A team, and the last number drawn for it.
+struct DrawnTeam {
+    team: Team,
+    x: u64,
+}
+
+// A valuation, a count of instruments and a set, and the last number drawn for them.
 pub struct Case {
-    pub team: Team,
+    pub valuation: Valuation,
     pub m: usize,
     pub set: u64,
     pub x: u64,
@@ -63,8 +70,8 @@ fn front(bytes: [u8; 64]) -> [u8; 16] {
     part
 }
 
-// A case whose team is drawn, and whose count and set are not yet.
-fn filled(f: Family, x: u64) -> Case {
+// A team of a family.
+fn filled(f: Family, x: u64) -> DrawnTeam {
     let kinds = f.kinds;
     let channels = f.channels;
     let joints = f.joints;
@@ -88,12 +95,7 @@ fn filled(f: Family, x: u64) -> Case {
         first: first_bytes,
         second: second_bytes,
     };
-    Case {
-        team,
-        m: 0,
-        set: 0,
-        x: z,
-    }
+    DrawnTeam { team, x: z }
 }
 
 // A count of instruments: one of eight bytes, and 64 where that is greater.
@@ -146,18 +148,68 @@ fn above(x: u64, m: usize) -> u64
     sets::minus(0xffff_ffff_ffff_ffff, sets::all_below(m))
 }
 
-// A case of a family, drawn after x. The set has at most seven members below m.
+// A case of a family, drawn after x: every instrument is usable and none is glued. The set has at most seven members below m.
 pub fn drawn(f: Family, x: u64) -> Case
     ensures { λ r. ⌜ r .m ≤ 64 ⌝ }
 {
     let counts = f.counts;
-    let mut c = filled(f, x);
-    let y = next(c.x);
+    let d = filled(f, x);
+    let team = d.team;
+    let y = next(d.x);
     let m = count(y, counts);
     let word = members(y, m);
     let z = next(word.x);
-    c.m = m;
-    c.set = sets::either(word.set, above(z, m));
-    c.x = z;
-    c
+    let valuation = Valuation {
+        team,
+        usable: sets::all_below(m),
+        glued: 0,
+    };
+    Case {
+        valuation,
+        m,
+        set: sets::either(word.set, above(z, m)),
+        x: z,
+    }
+}
+
+// A word of three numbers.
+fn mixed(a: u64, b: u64, c: u64) -> u64 {
+    a ^ (b << 21) ^ (c << 42)
+}
+
+// A word in which three of four bits are 1.
+fn most(x: u64) -> Word {
+    let a = next(x);
+    let b = next(a);
+    let c = next(b);
+    let d = next(c);
+    let e = next(d);
+    let f = next(e);
+    Word {
+        set: sets::either(mixed(a, b, c), mixed(d, e, f)),
+        x: f,
+    }
+}
+
+// A case with other usable and glued instruments. The set and the glued instruments are parts of the case's set, and may share members.
+pub fn glued(c: Case) -> Case
+    requires { ⌜ c .m ≤ 64 ⌝ }
+    ensures { λ r. ⌜ r .m ≤ 64 ⌝ }
+{
+    let v = c.valuation;
+    let team = v.team;
+    let stays = most(c.x);
+    let loose = most(stays.x);
+    let usable = most(loose.x);
+    let valuation = Valuation {
+        team,
+        usable: usable.set,
+        glued: sets::minus(c.set, loose.set),
+    };
+    Case {
+        valuation,
+        m: c.m,
+        set: sets::both(c.set, stays.set),
+        x: usable.x,
+    }
 }

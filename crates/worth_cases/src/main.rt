@@ -1,9 +1,10 @@
-// Worth and gains beside document 01's own words, on random teams and on chosen ones. Each line of standard input is answered by one
+// Worth and gains beside document 01's own words, on random valuations and on chosen teams. Each line of standard input is answered by one
 // line. An empty line and one that starts with `#` come back as they are; any other line is a verb and its operands.
 use libc::STDIN_FILENO;
 use lines::print;
 
 mod chosen;
+mod defined;
 mod draw;
 mod many;
 
@@ -12,7 +13,11 @@ fn perform(line: &[u8]) {
     let verb = lines::word(line);
     let operands = lines::rest(line);
     if lines::same(verb, b"many") {
-        many::answer(operands);
+        many::answer(operands, false);
+        return;
+    }
+    if lines::same(verb, b"glued") {
+        many::answer(operands, true);
         return;
     }
     if lines::same(verb, b"team") {

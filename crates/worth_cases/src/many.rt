@@ -1,5 +1,7 @@
-// The verb `many COUNT SEED ROWS`, with a seed from 1 on: that many random cases of a family, worth and gains beside the definition.
+// The verbs `many COUNT SEED ROWS` and `glued COUNT SEED ROWS`, with a seed from 1 on: that many random cases of a family, worth and gains
+// beside the definition. With `many` every instrument is usable and none is glued; with `glued` both are drawn too.
 ghost use Prim.Native.Nat.{_≤_, _<_};
+use crate::defined;
 use crate::draw;
 use crate::draw::Case;
 use crate::draw::Family;
@@ -14,8 +16,8 @@ struct Tally {
 }
 
 // The count of differences after one more answer: it grows where the definition says another.
-fn counted(differences: u64, answer: u64, defined: u64) -> u64 {
-    if answer == defined {
+fn counted(differences: u64, answer: u64, right: u64) -> u64 {
+    if answer == right {
         return differences;
     }
     wrapping_add_u64(differences, 1)
@@ -25,13 +27,13 @@ fn counted(differences: u64, answer: u64, defined: u64) -> u64 {
 fn with_worth(t: Tally, c: Case) -> Tally
     requires { ⌜ c .m ≤ 64 ⌝ }
 {
-    let team = c.team;
-    let answer = kinds::worth_of(team, c.m, c.set) as u64;
-    let defined = rule::worth(team, c.m, c.set) as u64;
+    let v = c.valuation;
+    let answer = kinds::worth_of(v, c.m, c.set) as u64;
+    let right = defined::worth(v, c.m, c.set);
     Tally {
         worth: wrapping_add_u64(t.worth, answer),
         gains: t.gains,
-        differences: counted(t.differences, answer, defined),
+        differences: counted(t.differences, answer, right),
     }
 }
 
@@ -39,21 +41,32 @@ fn with_worth(t: Tally, c: Case) -> Tally
 fn with_gains(t: Tally, c: Case) -> Tally
     requires { ⌜ c .m ≤ 64 ⌝ }
 {
-    let team = c.team;
+    let v = c.valuation;
     let m = c.m;
     let above = sets::minus(c.set, sets::all_below(m));
-    let set = sets::either(rule::standing(team, m, c.set), above);
-    let answer = kinds::gains_of(team, m, set);
-    let defined = rule::gains(team, m, set);
+    let set = sets::either(defined::part(v, m, c.set), above);
+    let answer = kinds::gains_of(v, m, set);
+    let right = defined::gains(v, m, set);
     Tally {
         worth: t.worth,
         gains: wrapping_add_u64(t.gains, sets::size(answer) as u64),
-        differences: counted(t.differences, answer, defined),
+        differences: counted(t.differences, answer, right),
     }
 }
 
+// A case of a family, drawn after x, with glued instruments or without.
+fn case(f: Family, x: u64, glued: bool) -> Case
+    ensures { λ r. ⌜ r .m ≤ 64 ⌝ }
+{
+    let c = draw::drawn(f, x);
+    if glued {
+        return draw::glued(c);
+    }
+    c
+}
+
 // The tally of so many cases of a family.
-fn tallied(f: Family, count: usize, seed: u64) -> Tally {
+fn tallied(f: Family, count: usize, seed: u64, glued: bool) -> Tally {
     let mut t = Tally {
         worth: 0,
         gains: 0,
@@ -62,7 +75,7 @@ fn tallied(f: Family, count: usize, seed: u64) -> Tally {
     let mut x = seed;
     let mut k: usize = 0;
     while k < count {
-        let c = draw::drawn(f, x);
+        let c = case(f, x, glued);
         t = with_gains(with_worth(t, c), c);
         x = c.x;
         k += 1;
@@ -101,8 +114,8 @@ fn show(count: usize, t: Tally) {
     print::marked(b", differences ", t.differences);
 }
 
-// Answers the verb. The rows are hexadecimal, in the order of a family's fields.
-pub fn answer(operands: &[u8]) {
+// Answers a verb. The rows are hexadecimal, in the order of a family's fields.
+pub fn answer(operands: &[u8], glued: bool) {
     let after = lines::rest(operands);
     let count = lines::number(operands);
     let seed = lines::number(after);
@@ -112,5 +125,5 @@ pub fn answer(operands: &[u8]) {
         print::text(b"SIX ROWS OF EIGHT BYTES");
         return;
     }
-    show(count, tallied(family(&space), count, seed as u64));
+    show(count, tallied(family(&space), count, seed as u64, glued));
 }

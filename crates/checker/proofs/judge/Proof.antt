@@ -19,7 +19,7 @@ returns-3 : tie.Need-returns-3
 returns-3 c = judge-12 (c .before .before .before .before .before .before .before .args .r) (c .before .before .before .before .before .before .before .args .sheet .now) (c .before .before .before .before .if1 .left) _ (c .before .before .before .length .ensures) (c .before .before .if2 .left) _ (c .before .first-fault .ensures) (c .if3 .taken)
 
 weigh-requires : tie.Need-weigh-requires
-weigh-requires c κs = let v = c .before .before .before .before .before .before .before .pre (c .before .before .before .before .if1 .left) in let e = c .before .before .before .length .ensures in (v .small, v .few, omega arith)
+weigh-requires c κs = let v = c .before .before .before .before .before .before .before .pre (c .before .before .before .before .if1 .left) in let e = c .before .before .before .length .ensures in (v, omega arith)
 
 returns-4 : tie.Need-returns-4
 returns-4 c = judge-rest (c .before .before .before .before .before .before .before .before .args .r) (c .before .before .before .before .before .before .before .before .args .sheet .now) (c .before .before .before .before .before .if1 .left) _ (c .before .before .before .before .length .ensures) (c .before .before .before .if2 .left) _ (c .before .before .first-fault .ensures) (c .before .if3 .left) _ (c .weigh .ensures)

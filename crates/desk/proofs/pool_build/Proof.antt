@@ -2,7 +2,7 @@ use mathlib.Core.Path.{sym, ap, _∙_, subst}
 use native.Mathlib.Omega.{arith}
 use denote.Ref.{now}
 use Rattle.builder.specs.Build.{Answered}
-use Rattle.desk.specs.Desk.{builtNumber}
+use Rattle.desk.specs.Desk.{deskBuilt}
 use Rattle.desk.proofs.Small.{built-told}
 use borrow.Author.Needs.{needs}
 use Rattle.desk.proofs.pool_build.Statement.{statement}
@@ -27,13 +27,13 @@ same-length : tie.Need-same-length
 same-length c = search needs
 
 returns : tie.Need-returns
-returns c = (ap builtNumber (sym (c .before .b .given .1) ∙ c .before .before .before .before .before .build .ensures .0), subst (Answered _ _ _) (c .before .before .before .before .before .build .ensures .0) (c .before .before .before .before .before .build .ensures .1))
+returns c = (ap deskBuilt (sym (c .before .b .given .1) ∙ c .before .before .before .before .before .build .ensures .0), subst (Answered _ _ _) (c .before .before .before .before .before .build .ensures .0) (c .before .before .before .before .before .build .ensures .1))
 
 same-length-2 : tie.Need-same-length-2
 same-length-2 c = search needs
 
 returns-2 : tie.Need-returns-2
-returns-2 c = (ap builtNumber (sym (c .before .b2 .given .1) ∙ c .before .before .before .before .before .build .ensures .0), subst (Answered _ _ _) (c .before .before .before .before .before .build .ensures .0) (c .before .before .before .before .before .build .ensures .1))
+returns-2 c = (ap deskBuilt (sym (c .before .b2 .given .1) ∙ c .before .before .before .before .before .build .ensures .0), subst (Answered _ _ _) (c .before .before .before .before .before .build .ensures .0) (c .before .before .before .before .before .build .ensures .1))
 
 pub pool-build-spec : {M : Type 1} → statement M
 pool-build-spec =

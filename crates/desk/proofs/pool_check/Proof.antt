@@ -1,6 +1,6 @@
 use mathlib.Core.Path.{sym, ap, _∙_}
 use native.Mathlib.Omega.{arith}
-use Rattle.desk.specs.Desk.{verdictNumber}
+use Rattle.desk.specs.Desk.{deskVerdict}
 use Rattle.desk.proofs.Small.{verdict-told}
 use borrow.Author.Needs.{needs}
 use Rattle.desk.proofs.pool_check.Statement.{statement}
@@ -22,10 +22,10 @@ add-result : tie.Need-add-result
 add-result c = let t = verdict-told _ _ _ _ _ (c .before .before .before .check .ensures .0) (c .before .v .given .1) in omega arith
 
 returns : tie.Need-returns
-returns c = ap verdictNumber (sym (c .enum-told .given .1) ∙ c .before .before .check .ensures .0)
+returns c = ap deskVerdict (sym (c .enum-told .given .1) ∙ c .before .before .check .ensures .0)
 
 returns-2 : tie.Need-returns-2
-returns-2 c = ap verdictNumber (sym (c .before .v .given .1) ∙ c .before .before .before .check .ensures .0)
+returns-2 c = ap deskVerdict (sym (c .before .v .given .1) ∙ c .before .before .before .check .ensures .0)
 
 pub pool-check-spec : {M : Type 1} → statement M
 pool-check-spec =

@@ -1,26 +1,22 @@
 use Prim.Native.Nat.{_≤_, _-_}
-use native.Mathlib.Omega.{arith}
 use borrow.Author.Needs.{needs}
 use Rattle.divide.proofs.holdings.Statement.{statement}
 use Rattle.divide.proofs.holdings.Tie as tie
 
 abbrev Inv-loop : tie.InvT-loop
-Inv-loop sheet m team g₀ t5 t6 g = g ≤ 64
+Inv-loop sheet m team g₀ t5 t6 g = g ≤ m
 
 abbrev μ-loop : tie.MeasureT-loop
-μ-loop sheet m team g₀ t5 t6 g = 64 - g
+μ-loop sheet m team g₀ t5 t6 g = m - g
 
 loop-holds : tie.Need-loop-holds Inv-loop μ-loop
 loop-holds c = search needs
 
-mul-byte-at : tie.Need-mul-byte-at Inv-loop μ-loop
-mul-byte-at c = search needs
+give-start-requires : tie.Need-give-start-requires Inv-loop μ-loop
+give-start-requires c κs = search needs
 
 add-byte-at : tie.Need-add-byte-at Inv-loop μ-loop
 add-byte-at c = search needs
-
-add-byte-at-2 : tie.Need-add-byte-at-2 Inv-loop μ-loop
-add-byte-at-2 c = search needs
 
 byte-at-requires : tie.Need-byte-at-requires Inv-loop μ-loop
 byte-at-requires c κs = search needs
@@ -56,9 +52,8 @@ holdings-spec =
     Inv-loop
     μ-loop
     loop-holds
-    mul-byte-at
+    give-start-requires
     add-byte-at
-    add-byte-at-2
     byte-at-requires
     slice-aggregate-field
     field-requires

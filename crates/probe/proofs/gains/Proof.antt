@@ -4,10 +4,10 @@ use Rattle.probe.proofs.gains.Statement.{statement}
 use Rattle.probe.proofs.gains.Tie as tie
 
 abbrev Inv-loop : tie.InvT-loop
-Inv-loop team m rounds word₀ set₀ sum₀ k₀ word set sum k = k ≤ rounds
+Inv-loop v m rounds word₀ set₀ sum₀ k₀ word set sum k = k ≤ rounds
 
 abbrev μ-loop : tie.MeasureT-loop
-μ-loop team m rounds word₀ set₀ sum₀ k₀ word set sum k = rounds - k
+μ-loop v m rounds word₀ set₀ sum₀ k₀ word set sum k = rounds - k
 
 loop-holds : tie.Need-loop-holds Inv-loop μ-loop
 loop-holds c = search needs

@@ -2,7 +2,7 @@ use mathlib.Core.Path.{_≡_}
 use native.Mathlib.Omega.{arith}
 use native.Mathlib.Nat.{mod-eq-of-lt, one-mul}
 use lib.Pow.{pow-lt, pow-pos}
-use Rattle.sets.specs.Words.{bit-below}
+use Rattle.sets.proofs.Words.{bit-below}
 use borrow.Author.Needs.{needs}
 use Rattle.sets.proofs.all_below.Statement.{statement}
 use Rattle.sets.proofs.all_below.Tie as tie

@@ -1,4 +1,4 @@
-use Rattle.sets.specs.Words.{bit-both}
+use Rattle.sets.proofs.Words.{bit-both}
 use Rattle.sets.proofs.both.Statement.{statement}
 use Rattle.sets.proofs.both.Tie as tie
 

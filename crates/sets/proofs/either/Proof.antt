@@ -1,4 +1,4 @@
-use Rattle.sets.specs.Words.{bit-either}
+use Rattle.sets.proofs.Words.{bit-either}
 use Rattle.sets.proofs.either.Statement.{statement}
 use Rattle.sets.proofs.either.Tie as tie
 

@@ -1,6 +1,6 @@
 use native.Mathlib.Omega.{arith}
 use lib.Count.{trailing-le}
-use Rattle.sets.specs.Lowest.{trailing-lowest}
+use Rattle.sets.proofs.Trailing.{trailing-lowest}
 use Rattle.sets.proofs.lowest.Statement.{statement}
 use Rattle.sets.proofs.lowest.Tie as tie
 

@@ -1,4 +1,4 @@
-use Rattle.sets.specs.Words.{bit-minus}
+use Rattle.sets.proofs.Words.{bit-minus}
 use Rattle.sets.proofs.minus.Statement.{statement}
 use Rattle.sets.proofs.minus.Tie as tie
 

@@ -1,6 +1,6 @@
 use native.Mathlib.Nat.{mod-eq-of-lt, one-mul}
 use lib.Pow.{pow-lt}
-use Rattle.sets.specs.Words.{bit-only}
+use Rattle.sets.proofs.Words.{bit-only}
 use borrow.Author.Needs.{needs}
 use Rattle.sets.proofs.only.Statement.{statement}
 use Rattle.sets.proofs.only.Tie as tie

@@ -1,6 +1,6 @@
 use native.Mathlib.Omega.{arith}
 use lib.Count.{ones-le}
-use Rattle.sets.specs.Words.{ones-size}
+use Rattle.sets.proofs.Words.{ones-size}
 use Rattle.sets.proofs.size.Statement.{statement}
 use Rattle.sets.proofs.size.Tie as tie
 

@@ -5,26 +5,23 @@ use borrow.Author.Needs.{needs}
 use Rattle.sheet.proofs.share_start.Statement.{statement}
 use Rattle.sheet.proofs.share_start.Tie as tie
 
-mul-result : tie.Need-mul-result
-mul-result c = search needs
+bound-start-requires : tie.Need-bound-start-requires
+bound-start-requires c κs = search needs
 
 add-result : tie.Need-add-result
 add-result c = search needs
+
+mul-result : tie.Need-mul-result
+mul-result c = search needs
 
 add-result-2 : tie.Need-add-result-2
 add-result-2 c = search needs
 
 mul-result-2 : tie.Need-mul-result-2
-mul-result-2 c = search needs
+mul-result-2 c = omega (arith, small-product _ _ (c .before .pre .0) (c .before .pre .1))
 
 add-result-3 : tie.Need-add-result-3
-add-result-3 c = search needs
-
-mul-result-3 : tie.Need-mul-result-3
-mul-result-3 c = omega (arith, small-product _ _ (c .pre .0) (c .pre .1))
-
-add-result-4 : tie.Need-add-result-4
-add-result-4 c = omega (arith, small-product _ _ (c .pre .0) (c .pre .1))
+add-result-3 c = omega (arith, small-product _ _ (c .before .pre .0) (c .before .pre .1))
 
 returns : tie.Need-returns
 unfolding shareStart
@@ -34,11 +31,10 @@ pub share-start-spec : {M : Type 1} → statement M
 share-start-spec =
     tie.close
     (tie.spec
-    mul-result
+    bound-start-requires
     add-result
+    mul-result
     add-result-2
     mul-result-2
     add-result-3
-    mul-result-3
-    add-result-4
     returns)

@@ -1,15 +1,16 @@
-use Prim.Native.Nat.{_≤_, _-_, _+_, _*_}
-use mathlib.Core.Path.{_≡_, refl}
+use Prim.Native.Nat.{_≤_, _-_}
+use mathlib.Core.Path.{_≡_}
 use mathlib.Core.Logic.{⊎-elim}
 use native.Mathlib.Omega.{arith}
-use Rattle.sheet.specs.Named.{named, Words}
+use Rattle.sets.specs.Bundles.{Bundles}
+use Rattle.sheet.specs.Named.{named}
 use Rattle.sheet.proofs.Naming.{words-none, words-skip, words-put}
 use borrow.Author.Needs.{needs}
 use Rattle.sheet.proofs.words.Statement.{statement}
 use Rattle.sheet.proofs.words.Tie as tie
 
 abbrev Inv-loop : tie.InvT-loop
-Inv-loop row m words₀ g₀ words g = (g ≤ m) × Words g (named row) words
+Inv-loop row m words₀ g₀ words g = (g ≤ m) × Bundles g (named row) words
 
 abbrev μ-loop : tie.MeasureT-loop
 μ-loop row m words₀ g₀ words g = m - g
@@ -17,17 +18,17 @@ abbrev μ-loop : tie.MeasureT-loop
 loop-holds : tie.Need-loop-holds Inv-loop μ-loop
 loop-holds c = (search needs, words-none _)
 
-mul-t : tie.Need-mul-t Inv-loop μ-loop
-mul-t c = search needs
+mul-wide : tie.Need-mul-wide Inv-loop μ-loop
+mul-wide c = search needs
 
-add-t : tie.Need-add-t Inv-loop μ-loop
-add-t c = search needs
+add-wide : tie.Need-add-wide Inv-loop μ-loop
+add-wide c = search needs
 
-shared-slice-read-t : tie.Need-shared-slice-read-t Inv-loop μ-loop
-shared-slice-read-t c = search needs
+shared-slice-read-wide : tie.Need-shared-slice-read-wide Inv-loop μ-loop
+shared-slice-read-wide c = search needs
 
-cast-t : tie.Need-cast-t Inv-loop μ-loop
-cast-t c = omega (arith, c .shared-slice-known2 .given (3 * c .before .before .loop .g + 2))
+wide-requires : tie.Need-wide-requires Inv-loop μ-loop
+wide-requires c κs = search needs
 
 mul-with : tie.Need-mul-with Inv-loop μ-loop
 mul-with c = search needs
@@ -51,7 +52,12 @@ loop-less : tie.Need-loop-less Inv-loop μ-loop
 loop-less c = search needs
 
 loop-again : tie.Need-loop-again Inv-loop μ-loop
-loop-again c = (search needs, ⊎-elim (λ w. words-put _ _ (c .before .before .before .loop .words) (c .before .before .before .loop .inv .1) _ _ _ refl (w .0 .taken) (w .1 .ensures) (w .2)) (λ w. rw (w .1) (words-skip _ _ (c .before .before .before .loop .words) (c .before .before .before .loop .inv .1) (w .0 .left))) (c .if1 .came))
+loop-again c =
+    let at = c .before .before .before .before .loop in
+    let is-t = c .before .wide .ensures in (
+      search needs,
+      ⊎-elim (λ w. words-put _ _ (at .words) (at .inv .1) _ _ _ is-t (w .0 .taken) (w .1 .ensures) (w .2)) (λ w. let l = w .0 .left in rw (w .1) (words-skip _ _ (at .words) (at .inv .1) (omega arith))) (c .if1 .came),
+    )
 
 returns : tie.Need-returns Inv-loop μ-loop
 returns c = let e : c .before .loop .g ≡ c .before .before .before .args .m = omega arith in rw e at (c .before .loop .inv .1)
@@ -63,10 +69,10 @@ words-spec =
     Inv-loop
     μ-loop
     loop-holds
-    mul-t
-    add-t
-    shared-slice-read-t
-    cast-t
+    mul-wide
+    add-wide
+    shared-slice-read-wide
+    wide-requires
     mul-with
     array-read-with
     with-requires

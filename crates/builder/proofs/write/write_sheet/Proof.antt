@@ -1,6 +1,6 @@
 use Prim.Native.Nat.{_-_}
 use native.Mathlib.Omega.{arith}
-use Rattle.sheet.specs.Layout.{share-first, end-last}
+use Rattle.sheet.proofs.Places.{share-first, end-last}
 use Rattle.builder.proofs.Pages.{share-le, written}
 use borrow.Author.Needs.{needs}
 use Rattle.builder.proofs.write.write_sheet.Statement.{statement}

@@ -1,15 +1,15 @@
 use Prim.Native.Nat.{_≤_, _-_}
-use Rattle.kinds.specs.Teams.{matroidOf}
+use Rattle.kinds.specs.Valuations.{matroidOf}
 use Rattle.checker.proofs.Shared.{Reached, reached-none, reached-next, reached-stop, reached-done}
 use borrow.Author.Needs.{needs}
 use Rattle.checker.proofs.shares.parts_hold.Statement.{statement}
 use Rattle.checker.proofs.shares.parts_hold.Tie as tie
 
 abbrev Inv-loop : tie.InvT-loop
-Inv-loop team m n share parts p₀ p = (p ≤ n) × Reached (matroidOf m team) share parts p
+Inv-loop valuation m n share parts p₀ p = (p ≤ n) × Reached (matroidOf m valuation) share parts p
 
 abbrev μ-loop : tie.MeasureT-loop
-μ-loop team m n share parts p₀ p = n - p
+μ-loop valuation m n share parts p₀ p = n - p
 
 loop-holds : tie.Need-loop-holds Inv-loop μ-loop
 loop-holds c = (search needs, reached-none _ _ _)
@@ -24,7 +24,7 @@ worth-of-requires : tie.Need-worth-of-requires Inv-loop μ-loop
 worth-of-requires c κs = search needs
 
 returns : tie.Need-returns Inv-loop μ-loop
-returns c = reached-stop (matroidOf (c .before .before .before .before .args .m) (c .before .before .before .before .args .team)) (c .before .before .before .before .args .share) (c .before .before .before .before .args .t5) (c .before .before .before .loop .p) (c .before .before .before .loop .inv .1) (c .before .before .before .before .args .n) _ (c .before .before .before .before .pre .1) (c .before .before .loop-test .taken) (c .before .worth-of .ensures) (c .if1 .taken)
+returns c = reached-stop (matroidOf (c .before .before .before .before .args .m) (c .before .before .before .before .args .valuation)) (c .before .before .before .before .args .share) (c .before .before .before .before .args .t5) (c .before .before .before .loop .p) (c .before .before .before .loop .inv .1) (c .before .before .before .before .args .n) _ (c .before .before .before .before .pre .1) (c .before .before .loop-test .taken) (c .before .worth-of .ensures) (c .if1 .taken)
 
 add-p : tie.Need-add-p Inv-loop μ-loop
 add-p c = search needs
@@ -33,10 +33,10 @@ loop-less : tie.Need-loop-less Inv-loop μ-loop
 loop-less c = search needs
 
 loop-again : tie.Need-loop-again Inv-loop μ-loop
-loop-again c = (search needs, reached-next (matroidOf (c .before .before .before .before .args .m) (c .before .before .before .before .args .team)) (c .before .before .before .before .args .share) (c .before .before .before .before .args .t5) (c .before .before .before .loop .p) (c .before .before .before .loop .inv .1) _ (c .before .worth-of .ensures) (c .if1 .left))
+loop-again c = (search needs, reached-next (matroidOf (c .before .before .before .before .args .m) (c .before .before .before .before .args .valuation)) (c .before .before .before .before .args .share) (c .before .before .before .before .args .t5) (c .before .before .before .loop .p) (c .before .before .before .loop .inv .1) _ (c .before .worth-of .ensures) (c .if1 .left))
 
 returns-2 : tie.Need-returns-2 Inv-loop μ-loop
-returns-2 c = reached-done (matroidOf (c .before .before .args .m) (c .before .before .args .team)) (c .before .before .args .share) (c .before .before .args .t5) (c .before .loop .p) (c .before .loop .inv .1) (c .before .before .args .n) (c .before .before .pre .1) (c .loop-test .left)
+returns-2 c = reached-done (matroidOf (c .before .before .args .m) (c .before .before .args .valuation)) (c .before .before .args .share) (c .before .before .args .t5) (c .before .loop .p) (c .before .loop .inv .1) (c .before .before .args .n) (c .before .before .pre .1) (c .loop-test .left)
 
 pub parts-hold-spec : {M : Type 1} → statement M
 parts-hold-spec =

@@ -21,14 +21,11 @@ loop-holds c = search needs
 array-read-sheet : tie.Need-array-read-sheet Inv-loop μ-loop
 array-read-sheet c = search needs
 
-mul-sheet : tie.Need-mul-sheet Inv-loop μ-loop
-mul-sheet c = search needs
+give-start-requires : tie.Need-give-start-requires Inv-loop μ-loop
+give-start-requires c κs = search needs
 
 add-sheet : tie.Need-add-sheet Inv-loop μ-loop
 add-sheet c = search needs
-
-add-sheet-2 : tie.Need-add-sheet-2 Inv-loop μ-loop
-add-sheet-2 c = search needs
 
 element-write-sheet : tie.Need-element-write-sheet Inv-loop μ-loop
 element-write-sheet c = search needs
@@ -55,9 +52,8 @@ give-spec =
     wide-requires
     loop-holds
     array-read-sheet
-    mul-sheet
+    give-start-requires
     add-sheet
-    add-sheet-2
     element-write-sheet
     add-g
     loop-less

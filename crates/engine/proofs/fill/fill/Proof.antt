@@ -3,10 +3,9 @@ use mathlib.Core.Path.{subst⁻¹}
 use native.Mathlib.Omega.{arith}
 use lib.Dec.{T, lt→ltb}
 use borrow.Author.Tests.{not-true, not-false}
-use Rattle.engine.specs.Seats.{Held}
+use Rattle.exchange.specs.Agents.{Held}
 use Rattle.engine.specs.Fill.{given}
-use Rattle.engine.specs.Chains.{Advanced}
-use Rattle.engine.proofs.Advance.{advances}
+use Rattle.exchange.proofs.Advance.{Advanced, advances}
 use Rattle.engine.proofs.Sizes.{given-le, given-more}
 use Rattle.engine.proofs.Filling.{ready-of, pool-end, fill-done}
 use borrow.Author.Needs.{needs}
@@ -29,10 +28,10 @@ loop-holds : tie.Need-loop-holds Inv-loop μ-loop
 loop-holds c = c .greedy .ensures
 
 bundles-requires : tie.Need-bundles-requires Inv-loop μ-loop
-bundles-requires c κs = omega (arith, c .before .loop .inv .m, c .before .before .before .before .pre .small)
+bundles-requires c κs = search needs
 
 pool-requires : tie.Need-pool-requires Inv-loop μ-loop
-pool-requires c κs = omega (arith, c .before .before .loop .inv .m, c .before .before .before .before .before .pre .small)
+pool-requires c κs = search needs
 
 search-requires : tie.Need-search-requires Inv-loop μ-loop
 search-requires c κs = ready-of _ _ _ (c .before .before .before .loop .inv) (c .before .bundles .ensures)

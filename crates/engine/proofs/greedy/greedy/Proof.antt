@@ -18,7 +18,7 @@ round-requires : tie.Need-round-requires
 round-requires c κs = held-empty _ _ (c .before .pre) (c .empty .ensures)
 
 pool-requires : tie.Need-pool-requires
-pool-requires c κs = omega (arith, c .round .ensures .m, c .round .ensures .small)
+pool-requires c κs = search needs
 
 lowest-requires : tie.Need-lowest-requires
 lowest-requires c κs = search needs

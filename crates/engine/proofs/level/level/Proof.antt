@@ -2,10 +2,9 @@ use Prim.Native.Nat.{_-_}
 use mathlib.Core.Path.{_≡_, refl, _∙_}
 use native.Mathlib.Omega.{arith}
 use borrow.Author.Tests.{not-true, not-false}
-use Rattle.engine.specs.Seats.{Held}
+use Rattle.exchange.specs.Agents.{Held}
 use Rattle.engine.specs.Fill.{given}
-use Rattle.engine.specs.Chains.{Advanced}
-use Rattle.engine.proofs.Advance.{advances}
+use Rattle.exchange.proofs.Advance.{Advanced, advances}
 use Rattle.engine.proofs.Filling.{ready-of}
 use Rattle.engine.proofs.Leveling.{shortfall, source-only, level-stuck, level-same, level-less, level-done}
 use borrow.Author.Needs.{needs}
@@ -22,7 +21,7 @@ loop-holds : tie.Need-loop-holds Inv-loop μ-loop
 loop-holds c = (c .pre .full .held, refl)
 
 bundles-requires : tie.Need-bundles-requires Inv-loop μ-loop
-bundles-requires c κs = omega (arith, c .before .loop .inv .0 .m, c .before .loop .inv .0 .small)
+bundles-requires c κs = search needs
 
 first-short-requires : tie.Need-first-short-requires Inv-loop μ-loop
 first-short-requires c κs = c .before .before .loop .inv .0 .few

@@ -2,7 +2,7 @@ use Prim.Native.Nat.{_≤_, _-_}
 use mathlib.Core.Path.{_≡_}
 use mathlib.Core.Logic.{⊎-elim}
 use native.Mathlib.Omega.{arith}
-use Rattle.engine.proofs.Sharing.{Parting, parting-none, parting-team, parting-pool}
+use Rattle.engine.proofs.Sharing.{Parting, parting-none, parting-agent, parting-pool}
 use borrow.Author.Needs.{needs}
 use Rattle.engine.proofs.share.parts.Statement.{statement}
 use Rattle.engine.proofs.share.parts.Tie as tie
@@ -32,7 +32,7 @@ loop-less : tie.Need-loop-less Inv-loop μ-loop
 loop-less c = search needs
 
 loop-again : tie.Need-loop-again Inv-loop μ-loop
-loop-again c = (search needs, ⊎-elim (λ w. parting-team _ _ _ (c .before .before .loop .part) _ (c .before .before .loop .inv .1) (c .before .loop-test .taken) (w .0 .taken) (w .1)) (λ w. parting-pool _ _ _ (c .before .before .loop .part) _ (c .before .before .loop .inv .1) (c .before .loop-test .taken) (w .0 .left) (w .1)) (c .if1 .came))
+loop-again c = (search needs, ⊎-elim (λ w. parting-agent _ _ _ (c .before .before .loop .part) _ (c .before .before .loop .inv .1) (c .before .loop-test .taken) (w .0 .taken) (w .1)) (λ w. parting-pool _ _ _ (c .before .before .loop .part) _ (c .before .before .loop .inv .1) (c .before .loop-test .taken) (w .0 .left) (w .1)) (c .if1 .came))
 
 returns : tie.Need-returns Inv-loop μ-loop
 returns c = let e : c .before .loop .g ≡ 64 = omega arith in rw e at (c .before .loop .inv .1 .is)

@@ -3,13 +3,13 @@ use mathlib.Core.Path.{refl, ap, subst⁻¹}
 use native.Mathlib.Omega.{arith}
 use native.Mathlib.Nat.{div-le-self}
 use Rattle.engine.proofs.Sizes.{given-le}
-use Rattle.engine.proofs.Sharing.{seated, given-count, share-levellable, shares}
+use Rattle.engine.proofs.Sharing.{valid, given-count, share-levellable, shares}
 use borrow.Author.Needs.{needs}
 use Rattle.engine.proofs.share.share_of.Statement.{statement}
 use Rattle.engine.proofs.share.share_of.Tie as tie
 
 fill-requires : tie.Need-fill-requires
-fill-requires c κs = seated _ _ _ (c .pre .0) (c .pre .1) (c .pre .2)
+fill-requires c κs = valid _ _ _ (c .pre .0) (c .pre .1) (c .pre .2)
 
 count-given-requires : tie.Need-count-given-requires
 count-given-requires c κs = search needs
@@ -21,13 +21,13 @@ cast-share : tie.Need-cast-share
 cast-share c = let is = given-count _ _ _ (c .before .before .fill .ensures .held) (c .count-given .ensures) in let most : c .count-given .result ≤ c .before .before .before .args .m = subst⁻¹ (λ (x : ℕ). x ≤ c .before .before .before .args .m) is (given-le _ (c .before .before .fill .result .holding .owner)) in let d = div-le-self (c .count-given .result) (c .before .before .before .args .n) in omega (arith, c .before .before .before .pre .0)
 
 level-requires : tie.Need-level-requires
-level-requires c κs = share-levellable (c .before .before .before .args .m) (c .before .before .before .args .n) (c .before .before .before .args .team) (c .before .before .before .pre .0) (c .before .before .before .pre .1) (c .before .before .before .pre .2) _ _ _ _ (c .before .before .fill .ensures) (ap (λ (x : ℕ). x / c .before .before .before .args .n) (given-count _ _ _ (c .before .before .fill .ensures .held) (c .count-given .ensures))) refl
+level-requires c κs = share-levellable (c .before .before .before .args .m) (c .before .before .before .args .n) (c .before .before .before .args .v) (c .before .before .before .pre .0) (c .before .before .before .pre .1) (c .before .before .before .pre .2) _ _ _ _ (c .before .before .fill .ensures) (ap (λ (x : ℕ). x / c .before .before .before .args .n) (given-count _ _ _ (c .before .before .fill .ensures .held) (c .count-given .ensures))) refl
 
 parts-requires : tie.Need-parts-requires
 parts-requires c κs = search needs
 
 returns : tie.Need-returns
-returns c = shares (c .before .before .before .before .before .before .args .m) (c .before .before .before .before .before .before .args .n) (c .before .before .before .before .before .before .args .team) (c .before .before .before .before .before .before .pre .0) (c .before .before .before .before .before .before .pre .1) (c .before .before .before .before .before .before .pre .2) (c .before .before .before .before .before .fill .result .holding) (c .before .before .level .result) _ _ _ _ (c .before .before .before .before .before .fill .ensures) (ap (λ (x : ℕ). x / c .before .before .before .before .before .before .args .n) (given-count _ _ _ (c .before .before .before .before .before .fill .ensures .held) (c .before .before .before .count-given .ensures))) refl (c .before .before .level .ensures) (c .parts .ensures) _ refl refl refl
+returns c = shares (c .before .before .before .before .before .before .args .m) (c .before .before .before .before .before .before .args .n) (c .before .before .before .before .before .before .args .v) (c .before .before .before .before .before .before .pre .0) (c .before .before .before .before .before .before .pre .1) (c .before .before .before .before .before .before .pre .2) (c .before .before .before .before .before .fill .result .holding) (c .before .before .level .result) _ _ _ _ (c .before .before .before .before .before .fill .ensures) (ap (λ (x : ℕ). x / c .before .before .before .before .before .before .args .n) (given-count _ _ _ (c .before .before .before .before .before .fill .ensures .held) (c .before .before .before .count-given .ensures))) refl (c .before .before .level .ensures) (c .parts .ensures) _ refl refl refl
 
 pub share-of-spec : {M : Type 1} → statement M
 share-of-spec =

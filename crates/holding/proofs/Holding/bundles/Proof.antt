@@ -2,17 +2,22 @@ use Prim.Native.Nat.{_≤_, _-_}
 use mathlib.Core.Path.{_≡_}
 use mathlib.Core.Logic.{⊎-elim}
 use native.Mathlib.Omega.{arith}
-use Rattle.holding.specs.Words.{Bundles}
-use Rattle.holding.proofs.Words.{bundles-none, bundles-skip, bundles-put}
+use lib.ListN.{length}
+use Rattle.sets.specs.Bundles.{Bundles}
+use Rattle.holding.specs.Give.{holderOf}
+use Rattle.holding.proofs.Words.{bundles-none, bundles-skip, bundles-put, bundles-all}
 use borrow.Author.Needs.{needs}
 use Rattle.holding.proofs.Holding.bundles.Statement.{statement}
 use Rattle.holding.proofs.Holding.bundles.Tie as tie
 
 abbrev Inv-loop : tie.InvT-loop
-Inv-loop self m words₀ g₀ words g = (g ≤ m) × Bundles self g words
+Inv-loop self end words₀ g₀ words g = (g ≤ end) × Bundles g (holderOf self) words
 
 abbrev μ-loop : tie.MeasureT-loop
-μ-loop self m words₀ g₀ words g = m - g
+μ-loop self end words₀ g₀ words g = end - g
+
+instruments-requires : tie.Need-instruments-requires Inv-loop μ-loop
+instruments-requires c κs = search needs
 
 loop-holds : tie.Need-loop-holds Inv-loop μ-loop
 loop-holds c = (search needs, bundles-none _)
@@ -51,7 +56,7 @@ loop-again c = (
 )
 
 returns : tie.Need-returns Inv-loop μ-loop
-returns c = let e : c .before .loop .g ≡ c .before .before .args .self .m = omega arith in rw e at (c .before .loop .inv .1)
+returns c = let e : c .before .loop .g ≡ c .before .before .instruments .result = omega arith in let long : length (c .before .before .before .args .self .owner) ≡ 64 = search needs in bundles-all _ _ _ long (c .before .before .instruments .ensures) (rw e at (c .before .loop .inv .1))
 
 pub bundles-spec : {M : Type 1} → statement M
 bundles-spec =
@@ -59,6 +64,7 @@ bundles-spec =
     (tie.spec
     Inv-loop
     μ-loop
+    instruments-requires
     loop-holds
     holder-requires
     mul-with

@@ -1,6 +1,5 @@
 use mathlib.Core.Path.{sym, _∙_}
 use native.Mathlib.Omega.{arith}
-use borrow.Author.Tests.{eq-eqb, ne-eqb}
 use Rattle.holding.specs.Give.{gave}
 use Rattle.holding.proofs.Tests.{instrument-below, team-below}
 use borrow.Author.Needs.{needs}
@@ -13,8 +12,8 @@ is-instrument-requires c κs = search needs
 is-team-requires : tie.Need-is-team-requires
 is-team-requires c κs = search needs
 
-holder-requires : tie.Need-holder-requires
-holder-requires c κs = search needs
+in-pool-requires : tie.Need-in-pool-requires
+in-pool-requires c κs = search needs
 
 cast-self : tie.Need-cast-self
 cast-self c = omega (arith, team-below _ _ (sym (c .before .before .before .is-team .ensures) ∙ c .before .before .if2 .taken))
@@ -24,11 +23,11 @@ element-write-self c = omega (arith, instrument-below _ _ (sym (c .before .befor
 
 returns : tie.Need-returns
 unfolding gave
-returns c = rw (sym (c .before .before .before .before .before .is-instrument .ensures) ∙ c .before .before .before .before .if1 .taken, sym (c .before .before .before .is-team .ensures) ∙ c .before .before .if2 .taken, eq-eqb _ _ (sym (c .before .holder .ensures) ∙ c .if3 .taken))
+returns c = rw (sym (c .before .before .before .before .before .is-instrument .ensures) ∙ c .before .before .before .before .if1 .taken, sym (c .before .before .before .is-team .ensures) ∙ c .before .before .if2 .taken, sym (c .before .in-pool .ensures) ∙ c .if3 .taken)
 
 returns-2 : tie.Need-returns-2
 unfolding gave
-returns-2 c = rw (sym (c .before .before .before .before .before .is-instrument .ensures) ∙ c .before .before .before .before .if1 .taken, sym (c .before .before .before .is-team .ensures) ∙ c .before .before .if2 .taken, ne-eqb _ _ (λ e. c .if3 .left (c .before .holder .ensures ∙ e)))
+returns-2 c = rw (sym (c .before .before .before .before .before .is-instrument .ensures) ∙ c .before .before .before .before .if1 .taken, sym (c .before .before .before .is-team .ensures) ∙ c .before .before .if2 .taken, sym (c .before .in-pool .ensures) ∙ c .if3 .left)
 
 returns-3 : tie.Need-returns-3
 unfolding gave
@@ -44,7 +43,7 @@ give-spec =
     (tie.spec
     is-instrument-requires
     is-team-requires
-    holder-requires
+    in-pool-requires
     cast-self
     element-write-self
     returns

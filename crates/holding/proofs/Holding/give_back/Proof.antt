@@ -1,5 +1,6 @@
 use mathlib.Core.Path.{sym, _∙_}
 use native.Mathlib.Omega.{arith}
+use borrow.Author.Tests.{not-true, not-false}
 use Rattle.holding.specs.Give.{returned}
 use Rattle.holding.proofs.Tests.{instrument-below}
 use borrow.Author.Needs.{needs}
@@ -9,22 +10,19 @@ use Rattle.holding.proofs.Holding.give_back.Tie as tie
 is-instrument-requires : tie.Need-is-instrument-requires
 is-instrument-requires c κs = search needs
 
-holder-requires : tie.Need-holder-requires
-holder-requires c κs = search needs
-
-is-team-requires : tie.Need-is-team-requires
-is-team-requires c κs = search needs
+in-pool-requires : tie.Need-in-pool-requires
+in-pool-requires c κs = search needs
 
 element-write-self : tie.Need-element-write-self
-element-write-self c = omega (arith, instrument-below _ _ (sym (c .before .before .before .before .is-instrument .ensures) ∙ c .before .before .before .if1 .taken))
+element-write-self c = omega (arith, instrument-below _ _ (sym (c .before .before .before .is-instrument .ensures) ∙ c .before .before .if1 .taken))
 
 returns : tie.Need-returns
 unfolding returned
-returns c = rw (sym (c .before .before .before .before .is-instrument .ensures) ∙ c .before .before .before .if1 .taken, ← c .before .before .holder .ensures, sym (c .before .is-team .ensures) ∙ c .if2 .taken)
+returns c = rw (sym (c .before .before .before .is-instrument .ensures) ∙ c .before .before .if1 .taken, sym (c .before .in-pool .ensures) ∙ not-true _ (c .if2 .taken))
 
 returns-2 : tie.Need-returns-2
 unfolding returned
-returns-2 c = rw (sym (c .before .before .before .before .is-instrument .ensures) ∙ c .before .before .before .if1 .taken, ← c .before .before .holder .ensures, sym (c .before .is-team .ensures) ∙ c .if2 .left)
+returns-2 c = rw (sym (c .before .before .before .is-instrument .ensures) ∙ c .before .before .if1 .taken, sym (c .before .in-pool .ensures) ∙ not-false _ (c .if2 .left))
 
 returns-3 : tie.Need-returns-3
 unfolding returned
@@ -35,8 +33,7 @@ give-back-spec =
     tie.close
     (tie.spec
     is-instrument-requires
-    holder-requires
-    is-team-requires
+    in-pool-requires
     element-write-self
     returns
     returns-2

@@ -1,7 +1,7 @@
 use mathlib.Core.Path.{_≡_, sym}
 use native.Mathlib.Omega.{arith}
 use lib.ListN.{length, List·getD-eq-default}
-use Rattle.plan.proofs.Lists.{getD-any}
+use Rattle.sets.proofs.Lists.{getD-any}
 use Rattle.holding.specs.Give.{holderOf}
 use borrow.Author.Needs.{needs}
 use Rattle.holding.proofs.Holding.holder.Statement.{statement}

@@ -12,8 +12,11 @@ refusal-requires c κs = search needs
 returns : tie.Need-returns
 returns c = search needs
 
+valuations-of-requires : tie.Need-valuations-of-requires
+valuations-of-requires c κs = valid-reading _ _ (c .before .before .read .ensures) (c .if1 .left)
+
 divide-requires : tie.Need-divide-requires
-divide-requires c κs = let v = valid-reading _ _ (c .before .before .before .read .ensures) (c .before .if1 .left) in record { small = v .small; some = v .some; few = v .few; teams-long = v .teams-long }
+divide-requires c κs = let v = valid-reading _ _ (c .before .before .before .read .ensures) (c .before .if1 .left) in record { small = v .small; some = v .some; few = v .few; valuations-long = search needs }
 
 show-requires : tie.Need-show-requires
 show-requires c κs = search needs
@@ -24,4 +27,11 @@ returns-2 c = search needs
 pub plan-of-spec : {M : Type 1} → statement M
 plan-of-spec =
     tie.close
-    (tie.spec read-requires refusal-requires returns divide-requires show-requires returns-2)
+    (tie.spec
+    read-requires
+    refusal-requires
+    returns
+    valuations-of-requires
+    divide-requires
+    show-requires
+    returns-2)

@@ -9,46 +9,45 @@ head-requires : tie.Need-head-requires
 head-requires c κs = omega (arith, end-inside (c .before .args .m) (c .before .args .n), c .before .pre .2)
 
 returns : tie.Need-returns
-returns c = form-head (c .before .before .before .args .m) (c .before .before .before .args .n) (c .before .before .before .args .sheet .now) _ (c .before .head .ensures) (c .if1 .taken)
+returns c =
+    let args = c .before .before .before .args in
+    form-head (args .m) (args .n) (args .sheet .now) _ (c .before .head .ensures) (c .if1 .taken)
+
+bound-start-requires : tie.Need-bound-start-requires
+bound-start-requires c κs = search needs
 
 gives-requires : tie.Need-gives-requires
-gives-requires c κs = omega (arith, end-inside (c .before .before .before .args .m) (c .before .before .before .args .n), c .before .before .before .pre .2)
-
-mul-if2 : tie.Need-mul-if2
-mul-if2 c = search needs
-
-add-if2 : tie.Need-add-if2
-add-if2 c = search needs
+gives-requires c κs = (c .before .before .before .before .pre .0, omega (arith, end-inside (c .before .before .before .before .args .m) (c .before .before .before .before .args .n), c .before .before .before .before .pre .2))
 
 returns-2 : tie.Need-returns-2
-returns-2 c = form-gives (c .before .before .before .before .before .args .m) (c .before .before .before .before .before .args .n) (c .before .before .before .before .before .args .sheet .now) _ (c .before .before .before .head .ensures) (c .before .before .if1 .left) _ (c .before .gives .ensures) (c .if2 .taken)
-
-mul-bound : tie.Need-mul-bound
-mul-bound c = search needs
-
-add-bound : tie.Need-add-bound
-add-bound c = search needs
+returns-2 c =
+    let args = c .before .before .before .before .before .before .args in
+    let is-at = c .before .before .bound-start .ensures in
+    let l = c .if2 .taken in
+    form-gives (args .m) (args .n) (args .sheet .now) _ (c .before .before .before .before .head .ensures) (c .before .before .before .if1 .left) _ (c .before .gives .ensures) (omega arith)
 
 bound-requires : tie.Need-bound-requires
-bound-requires c κs = omega (arith, end-inside (c .before .before .before .before .before .args .m) (c .before .before .before .before .before .args .n), c .before .before .before .before .before .pre .2)
-
-mul-if3 : tie.Need-mul-if3
-mul-if3 c = search needs
+bound-requires c κs = omega (arith, end-inside (c .before .before .before .before .before .before .args .m) (c .before .before .before .before .before .before .args .n), c .before .before .before .before .before .before .pre .2, c .before .before .bound-start .ensures)
 
 add-if3 : tie.Need-add-if3
-add-if3 c = search needs
-
-add-if3-2 : tie.Need-add-if3-2
-add-if3-2 c = search needs
+add-if3 c = omega (arith, c .before .before .before .bound-start .ensures)
 
 returns-3 : tie.Need-returns-3
-returns-3 c = form-bound (c .before .before .before .before .before .before .before .args .m) (c .before .before .before .before .before .before .before .args .n) (c .before .before .before .before .before .before .before .args .sheet .now) _ (c .before .before .before .before .before .head .ensures) (c .before .before .before .before .if1 .left) _ (c .before .before .before .gives .ensures) (c .before .before .if2 .left) _ (c .before .bound .ensures) (c .if3 .taken)
+returns-3 c =
+    let args = c .before .before .before .before .before .before .before .before .args in
+    let is-at = c .before .before .before .before .bound-start .ensures in
+    let l = c .before .before .if2 .left in
+    form-bound (args .m) (args .n) (args .sheet .now) _ (c .before .before .before .before .before .before .head .ensures) (c .before .before .before .before .before .if1 .left) _ (c .before .before .before .gives .ensures) (omega arith) _ _ is-at (c .before .bound .ensures) (c .if3 .taken)
 
 pages-requires : tie.Need-pages-requires
 pages-requires c κs = search needs
 
 returns-4 : tie.Need-returns-4
-returns-4 c = form-pages (c .before .before .before .before .before .before .before .before .args .m) (c .before .before .before .before .before .before .before .before .args .n) (c .before .before .before .before .before .before .before .before .args .sheet .now) _ (c .before .before .before .before .before .before .head .ensures) (c .before .before .before .before .before .if1 .left) _ (c .before .before .before .before .gives .ensures) (c .before .before .before .if2 .left) _ (c .before .before .bound .ensures) (c .before .if3 .left) _ (c .pages .ensures)
+returns-4 c =
+    let args = c .before .before .before .before .before .before .before .before .before .args in
+    let is-at = c .before .before .before .before .before .bound-start .ensures in
+    let l = c .before .before .before .if2 .left in
+    form-pages (args .m) (args .n) (args .sheet .now) _ (c .before .before .before .before .before .before .before .head .ensures) (c .before .before .before .before .before .before .if1 .left) _ (c .before .before .before .before .gives .ensures) (omega arith) _ _ is-at (c .before .before .bound .ensures) (c .before .if3 .left) _ (c .pages .ensures)
 
 pub first-fault-spec : {M : Type 1} → statement M
 first-fault-spec =
@@ -56,16 +55,11 @@ first-fault-spec =
     (tie.spec
     head-requires
     returns
+    bound-start-requires
     gives-requires
-    mul-if2
-    add-if2
     returns-2
-    mul-bound
-    add-bound
     bound-requires
-    mul-if3
     add-if3
-    add-if3-2
     returns-3
     pages-requires
     returns-4)

@@ -1,4 +1,4 @@
-use Prim.Native.Nat.{_≤_, _-_, _+_, _*_}
+use Prim.Native.Nat.{_≤_, _-_}
 use mathlib.Core.Path.{refl, sym}
 use native.Mathlib.Omega.{arith}
 use Rattle.matroid.specs.Cuts.{each}
@@ -17,26 +17,22 @@ abbrev μ-loop : tie.MeasureT-loop
 loop-holds : tie.Need-loop-holds Inv-loop μ-loop
 loop-holds c = (search needs, each-none _ (give (c .before .args .n)) 3 (λ g. refl) 4)
 
-mul-give : tie.Need-mul-give Inv-loop μ-loop
-mul-give c = search needs
-
-add-give : tie.Need-add-give Inv-loop μ-loop
-add-give c = search needs
+give-start-requires : tie.Need-give-start-requires Inv-loop μ-loop
+give-start-requires c κs = search needs
 
 give-requires : tie.Need-give-requires Inv-loop μ-loop
-give-requires c κs = search needs
-
-mul-if1 : tie.Need-mul-if1 Inv-loop μ-loop
-mul-if1 c = search needs
+give-requires c κs = omega (arith, c .give-start .ensures)
 
 add-if1 : tie.Need-add-if1 Inv-loop μ-loop
-add-if1 c = search needs
-
-add-if1-2 : tie.Need-add-if1-2 Inv-loop μ-loop
-add-if1-2 c = search needs
+add-if1 c = omega (arith, c .before .give-start .ensures)
 
 returns : tie.Need-returns Inv-loop μ-loop
-returns c = let l = c .if1 .taken in sym (each-stop _ (give (c .before .before .before .before .before .args .n)) 3 (λ g. refl) (c .before .before .before .before .before .args .m) (c .before .before .before .loop .g) 4 (4 + 3 * c .before .before .before .loop .g) _ (c .before .before .loop-test .taken) (c .before .before .before .loop .inv .1) (omega arith) (c .before .give .ensures) (λ e. omega arith))
+returns c =
+    let args = c .before .before .before .before .before .before .args in
+    let at = c .before .before .give-start in
+    let is-at = at .ensures in
+    let l = c .if1 .taken in
+    sym (each-stop _ (give (args .n)) 3 (λ g. refl) (args .m) (c .before .before .before .before .loop .g) 4 (at .result) _ (c .before .before .before .loop-test .taken) (c .before .before .before .before .loop .inv .1) (omega arith) (c .before .give .ensures) (λ e. omega arith))
 
 add-g : tie.Need-add-g Inv-loop μ-loop
 add-g c = search needs
@@ -45,16 +41,19 @@ loop-less : tie.Need-loop-less Inv-loop μ-loop
 loop-less c = search needs
 
 loop-again : tie.Need-loop-again Inv-loop μ-loop
-loop-again c = (search needs, each-next _ (give (c .before .before .before .before .before .args .n)) 3 (λ g. refl) (c .before .before .before .loop .g) 4 (4 + 3 * c .before .before .before .loop .g) _ (c .before .before .before .loop .inv .1) (omega arith) (c .before .give .ensures) (c .if1 .left))
+loop-again c =
+    let at = c .before .before .give-start in
+    let is-at = at .ensures in
+    (search needs, each-next _ (give (c .before .before .before .before .before .before .args .n)) 3 (λ g. refl) (c .before .before .before .before .loop .g) 4 (at .result) _ (c .before .before .before .before .loop .inv .1) (omega arith) (c .before .give .ensures) (c .if1 .left))
 
-mul-result : tie.Need-mul-result Inv-loop μ-loop
-mul-result c = search needs
-
-add-result : tie.Need-add-result Inv-loop μ-loop
-add-result c = search needs
+bound-start-requires : tie.Need-bound-start-requires Inv-loop μ-loop
+bound-start-requires c κs = search needs
 
 returns-2 : tie.Need-returns-2 Inv-loop μ-loop
-returns-2 c = sym (each-done _ (give (c .before .before .before .args .n)) 3 (λ g. refl) (c .before .before .before .args .m) (c .before .loop .g) 4 (4 + 3 * c .before .before .before .args .m) (c .before .loop .inv .0) (c .loop-test .left) (c .before .loop .inv .1) (omega arith))
+returns-2 c =
+    let args = c .before .before .before .before .args in
+    let is-end = c .bound-start .ensures in
+    sym (each-done _ (give (args .n)) 3 (λ g. refl) (args .m) (c .before .before .loop .g) 4 (c .bound-start .result) (c .before .before .loop .inv .0) (c .before .loop-test .left) (c .before .before .loop .inv .1) (omega arith))
 
 pub gives-spec : {M : Type 1} → statement M
 gives-spec =
@@ -63,16 +62,12 @@ gives-spec =
     Inv-loop
     μ-loop
     loop-holds
-    mul-give
-    add-give
+    give-start-requires
     give-requires
-    mul-if1
     add-if1
-    add-if1-2
     returns
     add-g
     loop-less
     loop-again
-    mul-result
-    add-result
+    bound-start-requires
     returns-2)

@@ -19,23 +19,26 @@ mul-width c = search needs
 add-width : tie.Need-add-width Inv-loop μ-loop
 add-width c = search needs
 
-mul-at : tie.Need-mul-at Inv-loop μ-loop
-mul-at c = search needs
+bound-start-requires : tie.Need-bound-start-requires Inv-loop μ-loop
+bound-start-requires c κs = search needs
 
 add-at : tie.Need-add-at Inv-loop μ-loop
-add-at c = search needs
-
-add-at-2 : tie.Need-add-at-2 Inv-loop μ-loop
-add-at-2 c = search needs
+add-at c = omega (arith, c .bound-start .ensures)
 
 loop-holds : tie.Need-loop-holds Inv-loop μ-loop
-loop-holds c = (search needs, refl, pages-none _ _ _)
+loop-holds c = (search needs, refl, pages-none _ _ _ _ (c .bound-start .ensures))
 
 page-requires : tie.Need-page-requires Inv-loop μ-loop
-page-requires c κs = omega (arith, page-inside (c .before .before .before .args .m) (c .before .before .before .args .n) (c .before .loop .t) (c .before .loop .at) (c .loop-test .taken) (c .before .loop .inv .2 .here), c .before .before .before .pre .2)
+page-requires c κs =
+    let args = c .before .before .before .before .args in
+    let at = c .before .loop in
+    omega (arith, page-inside (args .m) (args .n) (at .t) (at .at) (c .loop-test .taken) (at .inv .2 .here), c .before .before .before .before .pre .2)
 
 add-if1 : tie.Need-add-if1 Inv-loop μ-loop
-add-if1 c = omega (arith, page-inside (c .before .before .before .before .args .m) (c .before .before .before .before .args .n) (c .before .before .loop .t) (c .before .before .loop .at) (c .before .loop-test .taken) (c .before .before .loop .inv .2 .here), c .before .before .before .before .pre .2)
+add-if1 c =
+    let args = c .before .before .before .before .before .args in
+    let at = c .before .before .loop in
+    omega (arith, page-inside (args .m) (args .n) (at .t) (at .at) (c .before .loop-test .taken) (at .inv .2 .here), c .before .before .before .before .before .pre .2)
 
 returns : tie.Need-returns Inv-loop μ-loop
 returns c = let e = c .before .before .before .loop .inv .1 in let l = c .if1 .taken in pages-stop _ _ _ (c .before .before .before .loop .t) (c .before .before .before .loop .at) _ (c .before .before .before .loop .inv .2) (c .before .page .ensures) (c .before .before .loop-test .taken) (omega arith)
@@ -50,13 +53,25 @@ loop-again : tie.Need-loop-again Inv-loop μ-loop
 loop-again c = let e = c .before .before .before .loop .inv .1 in let l = c .if1 .left in (search needs, e, pages-next _ _ _ (c .before .before .before .loop .t) (c .before .before .before .loop .at) _ (c .before .before .before .loop .inv .2) (c .before .page .ensures) (omega arith))
 
 shared-slice-read-if2 : tie.Need-shared-slice-read-if2 Inv-loop μ-loop
-shared-slice-read-if2 c = let e : c .before .before .loop .t ≡ c .before .before .before .before .args .n = omega arith in let w = ap (λ (x : ℕ). x * (11 + 3 * c .before .before .before .before .args .m)) e in let here = c .before .before .loop .inv .2 .here in omega (arith, end-inside (c .before .before .before .before .args .m) (c .before .before .before .before .args .n), c .before .before .before .before .pre .2)
+shared-slice-read-if2 c =
+    let args = c .before .before .before .before .before .args in
+    let at = c .before .before .loop in
+    let e : at .t ≡ args .n = omega arith in
+    let w = ap (λ (x : ℕ). x * (11 + 3 * args .m)) e in
+    let here = at .inv .2 .here in
+    omega (arith, end-inside (args .m) (args .n), c .before .before .before .before .before .pre .2)
 
 returns-2 : tie.Need-returns-2 Inv-loop μ-loop
 returns-2 c = pages-end-stop _ _ _ (c .before .before .before .loop .t) (c .before .before .before .loop .at) (c .before .before .before .loop .inv .2) (c .before .before .before .loop .inv .0) (c .before .before .loop-test .left) (c .if2 .taken)
 
 add-result : tie.Need-add-result Inv-loop μ-loop
-add-result c = let e : c .before .before .before .loop .t ≡ c .before .before .before .before .before .args .n = omega arith in let w = ap (λ (x : ℕ). x * (11 + 3 * c .before .before .before .before .before .args .m)) e in let here = c .before .before .before .loop .inv .2 .here in omega (arith, end-inside (c .before .before .before .before .before .args .m) (c .before .before .before .before .before .args .n), c .before .before .before .before .before .pre .2)
+add-result c =
+    let args = c .before .before .before .before .before .before .args in
+    let at = c .before .before .before .loop in
+    let e : at .t ≡ args .n = omega arith in
+    let w = ap (λ (x : ℕ). x * (11 + 3 * args .m)) e in
+    let here = at .inv .2 .here in
+    omega (arith, end-inside (args .m) (args .n), c .before .before .before .before .before .before .pre .2)
 
 returns-3 : tie.Need-returns-3 Inv-loop μ-loop
 returns-3 c = pages-end _ _ _ (c .before .before .before .loop .t) (c .before .before .before .loop .at) (c .before .before .before .loop .inv .2) (c .before .before .before .loop .inv .0) (c .before .before .loop-test .left) (c .if2 .left)
@@ -69,9 +84,8 @@ pages-spec =
     μ-loop
     mul-width
     add-width
-    mul-at
+    bound-start-requires
     add-at
-    add-at-2
     loop-holds
     page-requires
     add-if1

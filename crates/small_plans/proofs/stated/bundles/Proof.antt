@@ -12,14 +12,11 @@ abbrev μ-loop : tie.MeasureT-loop
 loop-holds : tie.Need-loop-holds Inv-loop μ-loop
 loop-holds c = search needs
 
-mul-byte-at : tie.Need-mul-byte-at Inv-loop μ-loop
-mul-byte-at c = search needs
+give-start-requires : tie.Need-give-start-requires Inv-loop μ-loop
+give-start-requires c κs = search needs
 
 add-byte-at : tie.Need-add-byte-at Inv-loop μ-loop
 add-byte-at c = search needs
-
-add-byte-at-2 : tie.Need-add-byte-at-2 Inv-loop μ-loop
-add-byte-at-2 c = search needs
 
 byte-at-requires : tie.Need-byte-at-requires Inv-loop μ-loop
 byte-at-requires c κs = search needs
@@ -61,9 +58,8 @@ bundles-spec =
     Inv-loop
     μ-loop
     loop-holds
-    mul-byte-at
+    give-start-requires
     add-byte-at
-    add-byte-at-2
     byte-at-requires
     cast-t
     mul-with

@@ -1,28 +1,24 @@
-use Prim.Native.Nat.{_≤_, _-_, _+_, _*_}
+use Prim.Native.Nat.{_≤_, _-_}
+use native.Mathlib.Omega.{arith}
+use Rattle.sheet.proofs.Sizes.{start-le}
 use borrow.Author.Needs.{needs}
 use Rattle.small_plans.proofs.stated.shares.Statement.{statement}
 use Rattle.small_plans.proofs.stated.shares.Tie as tie
 
 abbrev Inv-loop : tie.InvT-loop
-Inv-loop sheet m n share₀ at₀ t₀ share at t = (t ≤ n) × (at ≤ 28 + 26 * t)
+Inv-loop sheet m n share₀ t₀ share t = t ≤ n
 
 abbrev μ-loop : tie.MeasureT-loop
-μ-loop sheet m n share₀ at₀ t₀ share at t = n - t
-
-mul-at : tie.Need-mul-at Inv-loop μ-loop
-mul-at c = search needs
-
-add-at : tie.Need-add-at Inv-loop μ-loop
-add-at c = search needs
-
-add-at-2 : tie.Need-add-at-2 Inv-loop μ-loop
-add-at-2 c = search needs
+μ-loop sheet m n share₀ t₀ share t = n - t
 
 loop-holds : tie.Need-loop-holds Inv-loop μ-loop
 loop-holds c = search needs
 
+share-start-requires : tie.Need-share-start-requires Inv-loop μ-loop
+share-start-requires c κs = search needs
+
 add-byte-at : tie.Need-add-byte-at Inv-loop μ-loop
-add-byte-at c = search needs
+add-byte-at c = let e = c .share-start .ensures in let l = start-le (c .before .before .before .before .args .m) (c .before .before .loop .t) (omega arith) (omega arith) in omega arith
 
 byte-at-requires : tie.Need-byte-at-requires Inv-loop μ-loop
 byte-at-requires c κs = search needs
@@ -35,15 +31,6 @@ mul-share c = search needs
 
 array-write-share : tie.Need-array-write-share Inv-loop μ-loop
 array-write-share c = search needs
-
-mul-at-2 : tie.Need-mul-at-2 Inv-loop μ-loop
-mul-at-2 c = search needs
-
-add-at-3 : tie.Need-add-at-3 Inv-loop μ-loop
-add-at-3 c = search needs
-
-add-at-4 : tie.Need-add-at-4 Inv-loop μ-loop
-add-at-4 c = search needs
 
 add-t : tie.Need-add-t Inv-loop μ-loop
 add-t c = search needs
@@ -63,18 +50,13 @@ shares-spec =
     (tie.spec
     Inv-loop
     μ-loop
-    mul-at
-    add-at
-    add-at-2
     loop-holds
+    share-start-requires
     add-byte-at
     byte-at-requires
     cast-share
     mul-share
     array-write-share
-    mul-at-2
-    add-at-3
-    add-at-4
     add-t
     loop-less
     loop-again

@@ -4,16 +4,16 @@ use Rattle.worth_cases.proofs.many.tallied.Statement.{statement}
 use Rattle.worth_cases.proofs.many.tallied.Tie as tie
 
 abbrev Inv-loop : tie.InvT-loop
-Inv-loop f count seed t₀ x₀ k₀ t x k = k ≤ count
+Inv-loop f count seed glued t₀ x₀ k₀ t x k = k ≤ count
 
 abbrev μ-loop : tie.MeasureT-loop
-μ-loop f count seed t₀ x₀ k₀ t x k = count - k
+μ-loop f count seed glued t₀ x₀ k₀ t x k = count - k
 
 loop-holds : tie.Need-loop-holds Inv-loop μ-loop
 loop-holds c = search needs
 
-drawn-requires : tie.Need-drawn-requires Inv-loop μ-loop
-drawn-requires c κs = search needs
+case-requires : tie.Need-case-requires Inv-loop μ-loop
+case-requires c κs = search needs
 
 with-worth-requires : tie.Need-with-worth-requires Inv-loop μ-loop
 with-worth-requires c κs = search needs
@@ -40,7 +40,7 @@ tallied-spec =
     Inv-loop
     μ-loop
     loop-holds
-    drawn-requires
+    case-requires
     with-worth-requires
     with-gains-requires
     add-k

@@ -1,0 +1,5 @@
+pub mod Assign
+pub mod Words
+pub mod Going
+pub mod Following
+pub mod Advance

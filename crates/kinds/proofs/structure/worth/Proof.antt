@@ -1,0 +1,26 @@
+use Rattle.matroid.proofs.Building.{worth-rankZero}
+use mathlib.Core.Path.{sym}
+use Rattle.kinds.proofs.Cases.{of-caps, of-loops, of-none}
+use borrow.Author.Needs.{needs}
+use Rattle.kinds.proofs.structure.worth.Statement.{statement}
+use Rattle.kinds.proofs.structure.worth.Tie as tie
+use Rattle.kinds.proofs.structure.worth.Reads as reads
+use Rattle.kinds.proofs.structure.worth.Lts as lts
+
+worth-requires : tie.Need-worth-requires
+worth-requires c κs = search needs
+
+returns : tie.Need-returns
+returns c = rw (of-caps (c .before .before .before .before .args .m) (c .before .before .before .before .args .team) (c .before .before .before .if1 .taken)) (c .worth .ensures)
+
+worth-requires-2 : tie.Need-worth-requires-2
+worth-requires-2 c κs = search needs
+
+returns-2 : tie.Need-returns-2
+returns-2 c = rw (of-loops (c .before .before .before .before .before .args .m) (c .before .before .before .before .before .args .team) (c .before .before .before .if2 .taken)) (c .worth2 .ensures)
+
+returns-3 : tie.Need-returns-3
+returns-3 c = rw (of-none (c .before .before .args .m) (c .before .before .args .team) (c .before .if1 .left) (c .if2 .left)) (sym (worth-rankZero _ _))
+
+pub worth-spec : {M : Type 1} → statement M
+worth-spec = tie.close (tie.spec worth-requires returns worth-requires-2 returns-2 returns-3)

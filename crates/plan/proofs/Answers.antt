@@ -1,0 +1,73 @@
+-- The operation Worth, from the answers of what it calls.
+use Prim.Native.Nat.{ℕ, _+_, _≤_}
+use mathlib.Core.Path.{_≡_, refl, sym, ap, _∙_}
+use mathlib.Core.Bool.{Bool, true, false, cond}
+use mathlib.Core.Logic.{_≢_}
+use mathlib.Core.List.{List}
+use native.Mathlib.Omega.{arith}
+use native.Mathlib.Decide.{ℕ-discrete}
+use lib.Dec.{ltb}
+use lib.ListN.{length}
+use borrow.Author.Tests.{eq-eqb, ne-eqb, le-ltb}
+use Rattle.matroid.specs.Matroid.{worth}
+use Rattle.sets.specs.Bits.{bit}
+use Rattle.kinds.specs.declared.Valuation.{Valuation}
+use Rattle.kinds.specs.Valuations.{matroidOf, blankValuation}
+use Rattle.kinds.proofs.Nothing.{blank-worth}
+use Rattle.team.specs.declared.Team.{Team}
+use Rattle.plan.specs.declared.Reading.{Reading}
+use Rattle.command.specs.declared.State.{State}
+use Rattle.plan.specs.declared.Answer.the-variants.{Refused, Worth}
+use Rattle.plan.specs.Read.{refused, accepted, readPlan}
+use Rattle.plan.specs.Teams.{valuationOf, teamMatroid}
+use Rattle.plan.specs.Worth.{answerOf, worthAnswer, worthNumber, worthPlace, worthValue}
+use Rattle.plan.proofs.Bounds.{all-readings}
+
+module _ (file : List ℕ) (team set : ℕ) (r : Reading) (is : r ≡ readPlan file) where
+  pub answer-refused : r .refusal ≢ 0 → Refused (r .refusal) (r .place) ≡ worthAnswer file team set
+  unfolding answerOf
+  answer-refused d =
+      let here : answerOf r team set ≡ Refused (r .refusal) (r .place) = rw (ne-eqb (r .refusal) 0 d, answerOf) refl in
+      sym here ∙ ap (λ (x : Reading). answerOf x team set) is
+
+  pub answer-worth : (v : Valuation) (w : ℕ) → r .refusal ≡ 0 → v ≡ valuationOf r team → w ≡ worth (matroidOf (r .m) v) (bit set) → Worth w ≡ worthAnswer file team set
+  unfolding answerOf
+  answer-worth v w z ev ew =
+      let here : answerOf r team set ≡ Worth w = rw (ew, ev, eq-eqb (r .refusal) 0 z, answerOf) refl in
+      sym here ∙ ap (λ (x : Reading). answerOf x team set) is
+
+  -- a team that is not in the plan values every set at 0
+  pub answer-absent : r .refusal ≡ 0 → r .n ≤ team → Worth 0 ≡ worthAnswer file team set
+  answer-absent z l = answer-worth blankValuation 0 z (rw (le-ltb team (r .n) l)) (sym (blank-worth (r .m) (bit set)))
+
+-- ---- the answer's numbers
+
+-- an accepted reading has place 0, and a refused one no team
+rest-zero : (file : List ℕ) → (readPlan file .refusal ≡ 0 → readPlan file .place ≡ 0) × (readPlan file .refusal ≢ 0 → readPlan file .n ≡ 0)
+rest-zero file = all-readings file (λ r. (r .refusal ≡ 0 → r .place ≡ 0) × (r .refusal ≢ 0 → r .n ≡ 0)) (λ at s teams _ _ d. (λ z. absurd (d z), λ _. refl)) (λ at s teams _ _ _ _. ended at s teams (ltb (at + 1) (length file))) (λ z. absurd (omega arith), λ _. refl)
+  where
+    ended : (at : ℕ) (s : State) (teams : List Team) (b : Bool) → (cond b (refused 9 (at + 1)) (accepted s teams) .refusal ≡ 0 → cond b (refused 9 (at + 1)) (accepted s teams) .place ≡ 0)
+        × (cond b (refused 9 (at + 1)) (accepted s teams) .refusal ≢ 0 → cond b (refused 9 (at + 1)) (accepted s teams) .n ≡ 0)
+    ended at s teams true = (λ z. absurd (omega arith), λ _. refl)
+    ended at s teams false = (λ _. refl, λ d. absurd (d refl))
+
+-- Worth answers Read's number and place, and what the set is worth, for any bytes
+pub worth-told : (file : List ℕ) (team set : ℕ)
+    → (worthNumber (worthAnswer file team set) ≡ readPlan file .refusal) × (worthPlace (worthAnswer file team set) ≡ readPlan file .place)
+    × (worthValue (worthAnswer file team set) ≡ worth (teamMatroid (readPlan file) team) (bit set))
+unfolding answerOf
+worth-told file team set = go (ℕ-discrete (r .refusal) 0) (rest-zero file)
+  where
+    r : Reading
+    r = readPlan file
+
+    go : Dec (r .refusal ≡ 0) → (r .refusal ≡ 0 → r .place ≡ 0) × (r .refusal ≢ 0 → r .n ≡ 0)
+        → (worthNumber (answerOf r team set) ≡ r .refusal) × (worthPlace (answerOf r team set) ≡ r .place) × (worthValue (answerOf r team set) ≡ worth (teamMatroid r team) (bit set))
+    go (yes z) (place, _) =
+        let here : answerOf r team set ≡ Worth (worth (teamMatroid r team) (bit set)) = rw (eq-eqb (r .refusal) 0 z, answerOf) refl in
+        (ap worthNumber here ∙ sym z, ap worthPlace here ∙ sym (place z), ap worthValue here)
+    go (no d) (_, none) =
+        let here : answerOf r team set ≡ Refused (r .refusal) (r .place) = rw (ne-eqb (r .refusal) 0 d, answerOf) refl in
+        let e = none d in
+        let zero : worth (teamMatroid r team) (bit set) ≡ 0 = rw (le-ltb team (r .n) (omega arith)) (blank-worth (r .m) (bit set)) in
+        (ap worthNumber here, ap worthPlace here, ap worthValue here ∙ sym zero)

@@ -1,0 +1,351 @@
+-- The proved table: the cases that document 01 marks P, computed from the definitions and the plan's bytes.
+use Prim.Native.Nat.{ℕ, zero, suc, _<_}
+use mathlib.Core.Path.{_≡_, refl, ap, _∙_, subst, subst⁻¹, fun-ext}
+use mathlib.Core.Bool.{Bool, true, false, not, _&&_, _||_, cond}
+use mathlib.Core.List.{List, [], _∷_}
+use native.Mathlib.Omega.{arith}
+use native.Mathlib.Decide.{decLe, ℕ-discrete}
+use lib.Dec.{T, ltb}
+use lib.ListN.{length, getD}
+use borrow.Author.Tests.{lt-ltb}
+use Rattle.matroid.specs.Taut.{and-left, and-right}
+use Rattle.matroid.specs.Set.{Set, _∩_, _∪_, size}
+use Rattle.matroid.specs.SetLaws.{size-none}
+use Rattle.matroid.specs.Sum.{sum}
+use Rattle.matroid.specs.Search.{largest}
+use Rattle.matroid.specs.Matroid.{Matroid, worth}
+use Rattle.matroid.specs.Division.{bundle, total}
+use Rattle.matroid.specs.Cuts.{cuts}
+use Rattle.matroid.specs.Share.{least, share}
+use Rattle.matroid.specs.Best.{best}
+use Rattle.matroid.proofs.Rank.{worth-same}
+use Rattle.sets.specs.Bits.{bit}
+use Rattle.sets.proofs.Below.{bit-none}
+use Rattle.sets.proofs.Words.{bit-below}
+use Rattle.team.specs.declared.Team.{Team}
+use Rattle.team.specs.Team.{blankTeam}
+use Rattle.caps.specs.Partition.{partition}
+use Rattle.loops.specs.Graphic.{graphic}
+use Rattle.kinds.specs.Teams.{kindMatroid}
+use Rattle.kinds.specs.Valuations.{matroidOf, matroid-of, blankValuation}
+use Rattle.kinds.proofs.Contracting.{stands-empty, worth-above}
+use Rattle.plan.specs.declared.Reading.{Reading}
+use Rattle.command.specs.Command.{commandAt}
+use Rattle.command.specs.Fault.{fault}
+use Rattle.command.specs.Carry.{changedTeam, changedState}
+use Rattle.plan.specs.Read.{readFrom, readPlan}
+use Rattle.plan.specs.Teams.{allBelow, teamMatroid}
+
+-- ---- from a team's valuation to its tables
+
+-- where every instrument is usable and none is glued, a set is worth what it is worth by the team's kind
+kind-worth : (m : ℕ) (team : Team) (S : Set) → worth (matroidOf m (record { team = team; usable = allBelow m; glued = 0 })) S ≡ worth (kindMatroid m team) S
+kind-worth m team S =
+    let M = kindMatroid m team in
+    let K = bit (allBelow m) in
+    let whole = (S ∩ K) ∪ bit 0 in
+    let above = worth-above M (bit 0) K (stands-empty M 0 refl) S whole (worth M whole) (size m (bit 0)) (λ j. refl) refl refl in
+    let none = ap (size m) (fun-ext bit-none) ∙ size-none m in
+    let same = worth-same M {S = whole} {S′ = S} (record { at = λ j l t. inside (S j) (rw (bit-none j, bit-below m j, lt-ltb j m l) at t) }) (record { at = λ j l t. rw (bit-none j, bit-below m j, lt-ltb j m l) (outside (S j) t) }) in
+    rw (matroid-of m (record { team = team; usable = allBelow m; glued = 0 })) (omega arith)
+  where
+    inside : (b : Bool) → T ((b && true) || false) → T b
+    inside true t = t
+    inside false t = t
+
+    outside : (b : Bool) → T b → T ((b && true) || false)
+    outside true t = t
+    outside false t = t
+
+-- the matroid of a team of the plan by its kind and tables, and the blank one of a team not in the plan
+abbrev ownMatroid : (r : Reading) → ℕ → Matroid (r .m)
+ownMatroid r t = cond (ltb t (r .n)) (kindMatroid (r .m) (getD (r .teams) t blankTeam)) (matroidOf (r .m) blankValuation)
+
+-- values every set as the team's valuation does
+own-worth : (r : Reading) (t : ℕ) → worth (teamMatroid r t) ≡ worth (ownMatroid r t)
+own-worth r t = fun-ext (λ S. go (ltb t (r .n)) S)
+  where
+    team : Team
+    team = getD (r .teams) t blankTeam
+
+    go : (b : Bool) (S : Set) → worth (matroidOf (r .m) (cond b (record { team = team; usable = allBelow (r .m); glued = 0 }) blankValuation)) S
+        ≡ worth (cond b (kindMatroid (r .m) team) (matroidOf (r .m) blankValuation)) S
+    go true S = kind-worth (r .m) team S
+    go false S = refl
+
+-- ---- the cases
+
+-- what a set, as a word, is worth to a team of a plan
+abbrev pub worthIn : List ℕ → ℕ → ℕ → ℕ
+worthIn file team set = worth (teamMatroid (readPlan file) team) (bit set)
+
+-- a team's share, and the best total
+abbrev shareIn : List ℕ → ℕ → ℕ
+shareIn file team = share (teamMatroid (readPlan file) team) (readPlan file .n)
+
+abbrev bestIn : List ℕ → ℕ
+bestIn file = best (readPlan file .n) (teamMatroid (readPlan file))
+
+-- each is computed by the team's tables
+worth-by : (file : List ℕ) (team set w : ℕ) → worth (ownMatroid (readPlan file) team) (bit set) ≡ w → worthIn file team set ≡ w
+worth-by file team set w e = ap (λ (v : Set → ℕ). v (bit set)) (own-worth (readPlan file) team) ∙ e
+
+share-by : (file : List ℕ) (team w : ℕ) → share (ownMatroid (readPlan file) team) (readPlan file .n) ≡ w → shareIn file team ≡ w
+unfolding share
+share-by file team w e =
+    let r = readPlan file in
+    ap (λ (v : Set → ℕ). largest (λ C. least (r .n) (λ t. v (bundle C t))) (cuts (r .m) (r .n))) (own-worth r team) ∙ e
+
+total-by : (file : List ℕ) (D : ℕ → ℕ) → total (readPlan file .n) (teamMatroid (readPlan file)) D ≡ total (readPlan file .n) (ownMatroid (readPlan file)) D
+total-by file D =
+    let r = readPlan file in
+    ap (λ (v : ℕ → Set → ℕ). sum (r .n) (λ t. v t (bundle D t))) (fun-ext (own-worth r))
+
+best-by : (file : List ℕ) (w : ℕ) → best (readPlan file .n) (ownMatroid (readPlan file)) ≡ w → bestIn file ≡ w
+unfolding best
+best-by file w e =
+    let r = readPlan file in
+    ap (λ (f : (ℕ → ℕ) → ℕ). largest f (cuts (r .m) (suc (r .n)))) (fun-ext (total-by file)) ∙ e
+
+-- plan A
+abbrev planA : List ℕ
+planA = 1 ∷ 1 ∷ 2 ∷ 3 ∷ 2 ∷ 6 ∷ 0 ∷ 1 ∷ 2 ∷ 6 ∷ 1 ∷ 1 ∷ 2 ∷ 2 ∷ 1 ∷ 4 ∷ 0 ∷ 1 ∷ 5 ∷ 1 ∷ 0 ∷ 7 ∷ []
+
+-- team 0: {0,1} is worth 1; team 1: {0} is worth 0; shares 1 and 0; best total 2
+planA-worth-0 : worthIn planA 0 3 ≡ 1
+unfolding worth bit readPlan readFrom commandAt fault changedTeam changedState decLe graphic
+planA-worth-0 = worth-by planA 0 3 1 refl
+
+planA-worth-1 : worthIn planA 1 1 ≡ 0
+unfolding worth bit readPlan readFrom commandAt fault changedTeam changedState decLe partition
+planA-worth-1 = worth-by planA 1 1 0 refl
+
+planA-share-0 : shareIn planA 0 ≡ 1
+unfolding worth bit readPlan readFrom commandAt fault changedTeam changedState decLe graphic share
+planA-share-0 = share-by planA 0 1 refl
+
+planA-share-1 : shareIn planA 1 ≡ 0
+unfolding worth bit readPlan readFrom commandAt fault changedTeam changedState decLe partition share
+planA-share-1 = share-by planA 1 0 refl
+
+planA-best : bestIn planA ≡ 2
+unfolding worth bit readPlan readFrom commandAt fault changedTeam changedState decLe partition graphic best
+planA-best = best-by planA 2 refl
+
+-- spans 1-2, 2-3, 1-3, 9 channels: all three are worth 2
+abbrev triangle9 : List ℕ
+triangle9 = 1 ∷ 1 ∷ 3 ∷ 3 ∷ 9 ∷ 6 ∷ 0 ∷ 1 ∷ 2 ∷ 6 ∷ 1 ∷ 2 ∷ 3 ∷ 6 ∷ 2 ∷ 1 ∷ 3 ∷ 7 ∷ []
+
+triangle9-worth : worthIn triangle9 0 7 ≡ 2
+unfolding worth bit readPlan readFrom commandAt fault changedTeam changedState decLe graphic
+triangle9-worth = worth-by triangle9 0 7 2 refl
+
+-- with 1 channel, 1
+abbrev triangle1 : List ℕ
+triangle1 = 1 ∷ 1 ∷ 3 ∷ 3 ∷ 1 ∷ 6 ∷ 0 ∷ 1 ∷ 2 ∷ 6 ∷ 1 ∷ 2 ∷ 3 ∷ 6 ∷ 2 ∷ 1 ∷ 3 ∷ 7 ∷ []
+
+triangle1-worth : worthIn triangle1 0 7 ≡ 1
+unfolding worth bit readPlan readFrom commandAt fault changedTeam changedState decLe graphic
+triangle1-worth = worth-by triangle1 0 7 1 refl
+
+-- three gauges on one pair of joints, two such teams of 9 channels: share 1
+abbrev parallel : List ℕ
+parallel = 1 ∷ 1 ∷ 3 ∷ 3 ∷ 9 ∷ 6 ∷ 0 ∷ 1 ∷ 2 ∷ 6 ∷ 1 ∷ 1 ∷ 2 ∷ 6 ∷ 2 ∷ 1 ∷ 2 ∷ 3 ∷ 9 ∷ 6 ∷ 0 ∷ 1 ∷ 2 ∷ 6 ∷ 1 ∷ 1 ∷ 2 ∷ 6 ∷ 2 ∷ 1 ∷ 2 ∷ 7 ∷ []
+
+parallel-share-0 : shareIn parallel 0 ≡ 1
+unfolding worth bit readPlan readFrom commandAt fault changedTeam changedState decLe graphic share
+parallel-share-0 = share-by parallel 0 1 refl
+
+parallel-share-1 : shareIn parallel 1 ≡ 1
+unfolding worth bit readPlan readFrom commandAt fault changedTeam changedState decLe graphic share
+parallel-share-1 = share-by parallel 1 1 refl
+
+-- instruments 0 to 2 in a class of cap 1, 3 in another of cap 1, 4 channels, two such teams: share 1
+abbrev threes : List ℕ
+threes = 1 ∷ 1 ∷ 4 ∷ 2 ∷ 4 ∷ 4 ∷ 0 ∷ 1 ∷ 4 ∷ 1 ∷ 1 ∷ 5 ∷ 0 ∷ 0 ∷ 5 ∷ 1 ∷ 0 ∷ 5 ∷ 2 ∷ 0 ∷ 5 ∷ 3 ∷ 1 ∷ 2 ∷ 4 ∷ 4 ∷ 0 ∷ 1 ∷ 4 ∷ 1 ∷ 1 ∷ 5 ∷ 0 ∷ 0 ∷ 5 ∷ 1 ∷ 0 ∷ 5 ∷ 2 ∷ 0 ∷ 5 ∷ 3 ∷ 1 ∷ 7 ∷ []
+
+threes-share-0 : shareIn threes 0 ≡ 1
+unfolding worth bit readPlan readFrom commandAt fault changedTeam changedState decLe partition share
+threes-share-0 = share-by threes 0 1 refl
+
+threes-share-1 : shareIn threes 1 ≡ 1
+unfolding worth bit readPlan readFrom commandAt fault changedTeam changedState decLe partition share
+threes-share-1 = share-by threes 1 1 refl
+
+-- m = 0: every set is worth 0, whatever bits its word has, and the share is 0; of a CAPS team
+abbrev noneCaps : List ℕ
+noneCaps = 1 ∷ 1 ∷ 0 ∷ 2 ∷ 9 ∷ 7 ∷ []
+
+noneCaps-worth-none : worthIn noneCaps 0 0 ≡ 0
+unfolding worth bit readPlan readFrom commandAt fault changedTeam changedState decLe partition
+noneCaps-worth-none = worth-by noneCaps 0 0 0 refl
+
+noneCaps-worth-all : worthIn noneCaps 0 18446744073709551615 ≡ 0
+unfolding worth bit readPlan readFrom commandAt fault changedTeam changedState decLe partition
+noneCaps-worth-all = worth-by noneCaps 0 18446744073709551615 0 refl
+
+noneCaps-share : shareIn noneCaps 0 ≡ 0
+unfolding worth bit readPlan readFrom commandAt fault changedTeam changedState decLe partition share
+noneCaps-share = share-by noneCaps 0 0 refl
+
+-- and of a LOOPS team
+abbrev noneLoops : List ℕ
+noneLoops = 1 ∷ 1 ∷ 0 ∷ 3 ∷ 9 ∷ 7 ∷ []
+
+noneLoops-worth-none : worthIn noneLoops 0 0 ≡ 0
+unfolding worth bit readPlan readFrom commandAt fault changedTeam changedState decLe graphic
+noneLoops-worth-none = worth-by noneLoops 0 0 0 refl
+
+noneLoops-worth-all : worthIn noneLoops 0 18446744073709551615 ≡ 0
+unfolding worth bit readPlan readFrom commandAt fault changedTeam changedState decLe graphic
+noneLoops-worth-all = worth-by noneLoops 0 18446744073709551615 0 refl
+
+noneLoops-share : shareIn noneLoops 0 ≡ 0
+unfolding worth bit readPlan readFrom commandAt fault changedTeam changedState decLe graphic share
+noneLoops-share = share-by noneLoops 0 0 refl
+
+-- 0 and 1 in classes 0 and 1, 2 and 3 in class 2, all caps 1, 2 channels: 2 for 0 and 3 for 1 each work alone, yet {2,3} does not stand
+abbrev trap : List ℕ
+trap = 1 ∷ 1 ∷ 4 ∷ 2 ∷ 2 ∷ 4 ∷ 0 ∷ 1 ∷ 4 ∷ 1 ∷ 1 ∷ 4 ∷ 2 ∷ 1 ∷ 5 ∷ 0 ∷ 0 ∷ 5 ∷ 1 ∷ 1 ∷ 5 ∷ 2 ∷ 2 ∷ 5 ∷ 3 ∷ 2 ∷ 7 ∷ []
+
+trap-whole : worthIn trap 0 3 ≡ 2
+unfolding worth bit readPlan readFrom commandAt fault changedTeam changedState decLe partition
+trap-whole = worth-by trap 0 3 2 refl
+
+trap-first : worthIn trap 0 6 ≡ 2
+unfolding worth bit readPlan readFrom commandAt fault changedTeam changedState decLe partition
+trap-first = worth-by trap 0 6 2 refl
+
+trap-second : worthIn trap 0 9 ≡ 2
+unfolding worth bit readPlan readFrom commandAt fault changedTeam changedState decLe partition
+trap-second = worth-by trap 0 9 2 refl
+
+trap-both : worthIn trap 0 12 ≡ 1
+unfolding worth bit readPlan readFrom commandAt fault changedTeam changedState decLe partition
+trap-both = worth-by trap 0 12 1 refl
+
+-- ---- sets that are no words
+
+-- whether two sets have the same members below m
+abbrev pub alike : ℕ → Set → Set → Bool
+alike zero A B = true
+alike (suc m) A B = cond (A m) (B m) (not (B m)) && alike m A B
+
+alike-at : (m : ℕ) (A B : Set) → T (alike m A B) → (j : ℕ) → j < m → A j ≡ B j
+alike-at zero A B t j l = absurd (omega arith)
+alike-at (suc m) A B t j l = go (ℕ-discrete j m) (alike-at m A B (and-right (cond (A m) (B m) (not (B m))) (alike m A B) t))
+  where
+    same : (a b : Bool) → T (cond a b (not b)) → a ≡ b
+    same true true t = refl
+    same false false t = refl
+    same true false t = absurd t
+    same false true t = absurd t
+
+    go : Dec (j ≡ m) → ((k : ℕ) → k < m → A k ≡ B k) → A j ≡ B j
+    go (yes e) rest = rw e (same (A m) (B m) (and-left (cond (A m) (B m) (not (B m))) (alike m A B) t))
+    go (no d) rest = rest j (omega arith)
+
+-- a set is worth what a word of the same members is worth
+pub worth-alike : (file : List ℕ) (team set w : ℕ) (S : Set) → worthIn file team set ≡ w → T (alike (readPlan file .m) S (bit set)) → worth (teamMatroid (readPlan file) team) S ≡ w
+worth-alike file team set w S e t =
+    let at = alike-at (readPlan file .m) S (bit set) t in
+    worth-same (teamMatroid (readPlan file) team) {S = S} {S′ = bit set} (record { at = λ j l a. subst T (at j l) a }) (record { at = λ j l a. subst⁻¹ T (at j l) a }) ∙ e
+
+-- ---- appendix D
+
+-- the six-instrument case of arXiv 2012.12710, appendix D: pairs {0,1} and {2,3} capped at 1, {4,5} at 2, 6 channels; the other team takes all: both shares 3
+abbrev pub appendixD : List ℕ
+appendixD = 1 ∷ 1 ∷ 6 ∷ 2 ∷ 6 ∷ 4 ∷ 0 ∷ 1 ∷ 4 ∷ 1 ∷ 1 ∷ 4 ∷ 2 ∷ 2 ∷ 5 ∷ 0 ∷ 0 ∷ 5 ∷ 1 ∷ 0 ∷ 5 ∷ 2 ∷ 1 ∷ 5 ∷ 3 ∷ 1 ∷ 5 ∷ 4 ∷ 2 ∷ 5 ∷ 5 ∷ 2 ∷ 2 ∷ 6 ∷ 4 ∷ 0 ∷ 6 ∷ 5 ∷ 0 ∷ 0 ∷ 5 ∷ 1 ∷ 0 ∷ 5 ∷ 2 ∷ 0 ∷ 5 ∷ 3 ∷ 0 ∷ 5 ∷ 4 ∷ 0 ∷ 5 ∷ 5 ∷ 0 ∷ 7 ∷ []
+
+appendixD-share-0 : shareIn appendixD 0 ≡ 3
+unfolding worth bit readPlan readFrom commandAt fault changedTeam changedState decLe partition share
+appendixD-share-0 = share-by appendixD 0 3 refl
+
+appendixD-share-1 : shareIn appendixD 1 ≡ 3
+unfolding worth bit readPlan readFrom commandAt fault changedTeam changedState decLe partition share
+appendixD-share-1 = share-by appendixD 1 3 refl
+
+appendixD-best : bestIn appendixD ≡ 6
+unfolding worth bit readPlan readFrom commandAt fault changedTeam changedState decLe partition best
+appendixD-best = best-by appendixD 6 refl
+
+-- giving {4,5} and {0,1,2,3} has total 6
+abbrev greedyD : ℕ → ℕ
+greedyD g = cond (ltb g 4) 1 0
+
+appendixD-total : total 2 (teamMatroid (readPlan appendixD)) greedyD ≡ 6
+unfolding worth bit readPlan readFrom commandAt fault changedTeam changedState decLe partition
+appendixD-total = total-by appendixD greedyD ∙ refl
+
+pub appendixD-refusal : readPlan appendixD .refusal ≡ 0
+unfolding readPlan readFrom commandAt fault changedTeam changedState
+appendixD-refusal = refl
+
+pub appendixD-m : readPlan appendixD .m ≡ 6
+unfolding readPlan readFrom commandAt fault changedTeam changedState
+appendixD-m = refl
+
+pub appendixD-n : readPlan appendixD .n ≡ 2
+unfolding readPlan readFrom commandAt fault changedTeam changedState
+appendixD-n = refl
+
+-- what the sets of the sheet below are worth to the two teams
+pub appendixD-0-none : worthIn appendixD 0 0 ≡ 0
+unfolding worth bit readPlan readFrom commandAt fault changedTeam changedState decLe partition
+appendixD-0-none = worth-by appendixD 0 0 0 refl
+
+pub appendixD-0-rest : worthIn appendixD 0 15 ≡ 2
+unfolding worth bit readPlan readFrom commandAt fault changedTeam changedState decLe partition
+appendixD-0-rest = worth-by appendixD 0 15 2 refl
+
+pub appendixD-0-bundle : worthIn appendixD 0 48 ≡ 2
+unfolding worth bit readPlan readFrom commandAt fault changedTeam changedState decLe partition
+appendixD-0-bundle = worth-by appendixD 0 48 2 refl
+
+pub appendixD-0-part-0 : worthIn appendixD 0 21 ≡ 3
+unfolding worth bit readPlan readFrom commandAt fault changedTeam changedState decLe partition
+appendixD-0-part-0 = worth-by appendixD 0 21 3 refl
+
+pub appendixD-0-part-1 : worthIn appendixD 0 42 ≡ 3
+unfolding worth bit readPlan readFrom commandAt fault changedTeam changedState decLe partition
+appendixD-0-part-1 = worth-by appendixD 0 42 3 refl
+
+pub appendixD-0-all : worthIn appendixD 0 63 ≡ 4
+unfolding worth bit readPlan readFrom commandAt fault changedTeam changedState decLe partition
+appendixD-0-all = worth-by appendixD 0 63 4 refl
+
+pub appendixD-1-none : worthIn appendixD 1 0 ≡ 0
+unfolding worth bit readPlan readFrom commandAt fault changedTeam changedState decLe partition
+appendixD-1-none = worth-by appendixD 1 0 0 refl
+
+pub appendixD-1-bundle : worthIn appendixD 1 15 ≡ 4
+unfolding worth bit readPlan readFrom commandAt fault changedTeam changedState decLe partition
+appendixD-1-bundle = worth-by appendixD 1 15 4 refl
+
+pub appendixD-1-part-0 : worthIn appendixD 1 7 ≡ 3
+unfolding worth bit readPlan readFrom commandAt fault changedTeam changedState decLe partition
+appendixD-1-part-0 = worth-by appendixD 1 7 3 refl
+
+pub appendixD-1-part-1 : worthIn appendixD 1 56 ≡ 3
+unfolding worth bit readPlan readFrom commandAt fault changedTeam changedState decLe partition
+appendixD-1-part-1 = worth-by appendixD 1 56 3 refl
+
+pub appendixD-1-all : worthIn appendixD 1 63 ≡ 6
+unfolding worth bit readPlan readFrom commandAt fault changedTeam changedState decLe partition
+appendixD-1-all = worth-by appendixD 1 63 6 refl
+
+-- the sheet of that division: total 6 with the bound of no instruments; share 3 with {0,1,2,3} and parts {0,2,4} and {1,3,5}; share 3 with no
+-- instruments and parts {0,1,2} and {3,4,5}
+abbrev pub appendixD-sheet : List ℕ
+appendixD-sheet =
+    17 ∷ 6 ∷ 2 ∷ 6
+    ∷ 18 ∷ 0 ∷ 1 ∷ 18 ∷ 1 ∷ 1 ∷ 18 ∷ 2 ∷ 1 ∷ 18 ∷ 3 ∷ 1 ∷ 18 ∷ 4 ∷ 0 ∷ 18 ∷ 5 ∷ 0
+    ∷ 19 ∷ 0 ∷ 0 ∷ 0 ∷ 0 ∷ 0 ∷ 0 ∷ 0 ∷ 0
+    ∷ 20 ∷ 0 ∷ 3 ∷ 15 ∷ 0 ∷ 0 ∷ 0 ∷ 0 ∷ 0 ∷ 0 ∷ 0
+    ∷ 21 ∷ 0 ∷ 0 ∷ 21 ∷ 1 ∷ 1 ∷ 21 ∷ 2 ∷ 0 ∷ 21 ∷ 3 ∷ 1 ∷ 21 ∷ 4 ∷ 0 ∷ 21 ∷ 5 ∷ 1
+    ∷ 20 ∷ 1 ∷ 3 ∷ 0 ∷ 0 ∷ 0 ∷ 0 ∷ 0 ∷ 0 ∷ 0 ∷ 0
+    ∷ 21 ∷ 0 ∷ 0 ∷ 21 ∷ 1 ∷ 0 ∷ 21 ∷ 2 ∷ 0 ∷ 21 ∷ 3 ∷ 1 ∷ 21 ∷ 4 ∷ 1 ∷ 21 ∷ 5 ∷ 1
+    ∷ 22 ∷ []
+
+pub appendixD-sheet-length : length appendixD-sheet ≡ 90
+appendixD-sheet-length = refl
