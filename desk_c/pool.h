@@ -1,13 +1,14 @@
 /*
- * The pool library: Build and Check on byte buffers.
+ * The pool library: Build, Check and List on byte buffers.
  *
- * Contract of both functions
+ * Contract of all three functions
  * - A length is a count of bytes. A null pointer is allowed where the length is 0.
  * - Any bytes may be given as plan and as sheet: nothing about them has to be tested before a call.
  * - Every call ends. There is no global state and no heap, so calls from several threads do not meet.
  * - A refusal answers 65,536 x its number + its place; its place is below 65,536 and its number is 1 to 16.
  *   Refusals 1 to 9 are about the plan, 10 is about the buffer, 11 to 16 are about the sheet.
  * - The longest accepted plan has POOL_PLAN_MAX bytes, the longest accepted sheet POOL_SHEET_MAX bytes.
+ *   The listing of an accepted sheet has at most POOL_LISTING_MAX bytes.
  */
 #ifndef POOL_H
 #define POOL_H
@@ -20,9 +21,10 @@
 extern "C" {
 #endif
 
-/* The limits of plans and sheets. */
+/* The limits of plans, sheets and listings. */
 #define POOL_PLAN_MAX 3100
 #define POOL_SHEET_MAX 2642
+#define POOL_LISTING_MAX 512
 #define POOL_INSTRUMENTS_MAX 64
 #define POOL_TEAMS_MAX 12
 
@@ -45,7 +47,18 @@ uint64_t pool_build(const uint8_t *plan, size_t plan_len, uint8_t *buffer, size_
  */
 uint64_t pool_check(const uint8_t *plan, size_t plan_len, const uint8_t *sheet, size_t sheet_len);
 
-/* Tells whether an answer of either function is a refusal. */
+/*
+ * List: writes the weekly listing of a sheet into the lent buffer text and answers its length K, which is below 65,536.
+ * The listing is text in ASCII; each line ends with a line feed, and there is no null byte at the end.
+ * Check's refusals of this sheet for this plan come first, as pool_check answers them.
+ * Exactly the first K bytes of text are written; on a refusal text is untouched.
+ * A buffer of POOL_LISTING_MAX bytes is long enough for every listing; one shorter than K is refusal 10, place K.
+ * Plan and text must not overlap, nor sheet and text.
+ */
+uint64_t pool_list(const uint8_t *plan, size_t plan_len, const uint8_t *sheet, size_t sheet_len, uint8_t *text,
+                   size_t text_len);
+
+/* Tells whether an answer is a refusal. */
 static inline bool pool_refused(uint64_t answer)
 {
     return answer >= POOL_REFUSAL;

@@ -1,8 +1,19 @@
 /* The command explain. */
 #include "commands.h"
 #include "content.h"
-#include "listing.h"
 #include "refusal.h"
+
+/* Prints the weekly listing that List writes of a sheet, or the refusal in words. */
+static enum status print_listing(const struct content *plan, const struct content *sheet)
+{
+    uint8_t text[POOL_LISTING_MAX];
+    uint64_t answer = pool_list(plan->at, plan->length, sheet->at, sheet->length, text, sizeof text);
+
+    if (pool_refused(answer))
+        return refuse(stdout, answer, plan, sheet);
+    fwrite(text, 1, (size_t)answer, stdout);
+    return STATUS_DONE;
+}
 
 /* Explains a plan by the sheet that Build makes of it. */
 static enum status explain_plan(const struct content *plan)
@@ -13,23 +24,17 @@ static enum status explain_plan(const struct content *plan)
     if (pool_refused(answer))
         return refuse(stdout, answer, plan, NULL);
     sheet.length = (size_t)answer;
-    listing_print(stdout, &sheet, sheet_shape(plan));
-    return STATUS_DONE;
+    return print_listing(plan, &sheet);
 }
 
-/* Explains a plan by a sheet that is given, if Check accepts it. */
+/* Explains a plan by a sheet that is given. */
 static enum status explain_sheet(const struct content *plan, const char *path)
 {
     struct content sheet;
-    uint64_t answer;
 
     if (!content_read_sheet(&sheet, path))
         return STATUS_TROUBLE;
-    answer = pool_check(plan->at, plan->length, sheet.at, sheet.length);
-    if (answer != POOL_ACCEPTED)
-        return refuse(stdout, answer, plan, &sheet);
-    listing_print(stdout, &sheet, sheet_shape(plan));
-    return STATUS_DONE;
+    return print_listing(plan, &sheet);
 }
 
 /* explain PLAN [SHEET]: prints the weekly listing or the refusal in words. */

@@ -68,7 +68,7 @@ unsigned sheet_share_stated(const struct content *sheet, struct sheet_shape shap
     return sheet->at[sheet_share(shape, team) + 2];
 }
 
-/* Prints the instruments a team holds, rising, a space before each; with SHEET_POOL, those in the pool. */
+/* Prints the instruments a team holds, rising, a space before each. */
 void sheet_print_held(FILE *out, const struct content *sheet, struct sheet_shape shape, size_t team)
 {
     for (size_t instrument = 0; instrument < shape.instruments; instrument++)

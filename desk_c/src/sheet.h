@@ -63,7 +63,7 @@ size_t sheet_count(const struct content *sheet, struct sheet_shape shape, size_t
 /* The share that a team's SHARE states. */
 unsigned sheet_share_stated(const struct content *sheet, struct sheet_shape shape, size_t team);
 
-/* Prints the instruments a team holds, rising, a space before each; with SHEET_POOL, those in the pool. */
+/* Prints the instruments a team holds, rising, a space before each. */
 void sheet_print_held(FILE *out, const struct content *sheet, struct sheet_shape shape, size_t team);
 
 /* Prints the instruments of the set at an offset, rising, a space before each. */

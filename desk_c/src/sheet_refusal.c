@@ -13,6 +13,14 @@ struct subject {
     size_t place;
 };
 
+/* 10: the lent buffer is too short: for the listing where a sheet was given, else for the sheet. */
+static void print_short_buffer(FILE *out, const struct refusal *refusal)
+{
+    const char *written = refusal->sheet == NULL ? "sheet" : "listing";
+
+    fprintf(out, "The buffer lent for the %s is too short; the %s has %zu bytes.", written, written, refusal->place);
+}
+
 /* 11: the length is not the plan's L. */
 static void print_wrong_length(const struct subject *subject)
 {
@@ -116,7 +124,7 @@ bool refusal_print_sheet(FILE *out, const struct refusal *refusal)
     struct subject subject = {out, refusal->plan, refusal->sheet, sheet_shape(refusal->plan), refusal->place};
 
     if (refusal->number == 10) {
-        fprintf(out, "The buffer lent for the sheet is too short; the sheet has %zu bytes.", refusal->place);
+        print_short_buffer(out, refusal);
         return true;
     }
     if (refusal->sheet == NULL)

@@ -1,5 +1,5 @@
 #!/bin/sh
-# Runs the tests: run.sh FOLDER, where FOLDER holds the programs desk, desk_checked, desk_faults and words.
+# Runs the tests: run.sh FOLDER, where FOLDER holds the programs desk, desk_checked, desk_faults, words and list.
 # The last line counts the tests; the exit status is 0 if none failed.
 set -u
 LC_ALL=C
@@ -18,7 +18,7 @@ absolute() {
 
 tests=$(absolute "$(dirname "$0")")
 built=$(absolute "$1")
-words=$built/words faults=$built/desk_faults
+words=$built/words list=$built/list faults=$built/desk_faults
 
 top=${TMPDIR:-/tmp}/desk-test-$$
 mkdir "$top" || exit 2
@@ -34,11 +34,12 @@ for program in desk desk_checked; do
     work=$top/$program
     mkdir "$work" && cd "$work" || exit 2
     write_samples
-    for group in plans sheets arguments reading writing permissions; do
+    for group in plans sheets listings arguments reading writing permissions; do
         . "$tests/$group.sh"
     done
 done
 . "$tests/words.sh"
+. "$tests/list.sh"
 . "$tests/faults.sh"
 
 [ "$skipped" -eq 0 ] || echo "$skipped skipped"

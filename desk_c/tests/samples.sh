@@ -43,6 +43,46 @@ longest_plan() {
     printf ' 07'
 }
 
+# Prints 64 commands with the given byte in hexadecimal, which name the twelve teams or parts in turn.
+deal() {
+    gauge=0
+    while [ $gauge -lt 64 ]; do
+        printf ' %s %02x %02x' "$1" $gauge $((gauge % 12))
+        gauge=$((gauge + 1))
+    done
+}
+
+# Prints a sheet of the longest plan with six channels in hexadecimal: its GIVEs and every team's PARTs go in turn.
+dealt_sheet() {
+    printf '11 40 0C 40'
+    deal 12
+    printf ' 13 %s' "$none"
+    team=0
+    while [ $team -lt 12 ]; do
+        printf ' 14 %02x 05 %s' $team "$none"
+        deal 15
+        team=$((team + 1))
+    done
+    printf ' 16'
+}
+
+# Twelve instruments, with one division of greatest total: 0 and 11 for team 0, none for team 1, 9 and 10 for team 2.
+plan_some='01 01 0C 02 02 04 00 02 05 00 00 05 0B 00 02 FF 03 FF 06 09 01 02 06 0A 02 03 07'
+
+# Twelve teams without instruments.
+plan_teams='01 01 00 02 00 03 00 02 00 03 00 02 00 03 00 02 00 03 00 02 00 03 00 02 00 03 00 07'
+
+# Prints a plan in hexadecimal: 64 instruments, all of one class, for one team that takes them all.
+all_plan() {
+    printf '01 01 40 02 40 04 00 40'
+    instrument=0
+    while [ $instrument -lt 64 ]; do
+        printf ' 05 %02x 00' $instrument
+        instrument=$((instrument + 1))
+    done
+    printf ' 07'
+}
+
 # Writes the samples as files. The lists are split into words on purpose.
 # shellcheck disable=SC2046,SC2086
 write_samples() {
@@ -53,5 +93,9 @@ write_samples() {
     hex six.sheet $sheet_six
     hex unfair.sheet $unfair_six
     hex longest.plan $(longest_plan 06)
+    hex dealt.sheet $(dealt_sheet)
+    hex some.plan $plan_some
+    hex teams.plan $plan_teams
+    hex all.plan $(all_plan)
     hex empty
 }

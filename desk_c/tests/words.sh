@@ -3,6 +3,8 @@
 
 expect 'words of refusal 10' 0 'REFUSED 10 54
 The buffer lent for the sheet is too short; the sheet has 54 bytes.' '' "$words" 10 54 a.plan -
+expect 'words of refusal 10 with a sheet' 0 'REFUSED 10 59
+The buffer lent for the listing is too short; the listing has 59 bytes.' '' "$words" 10 59 a.plan a.sheet
 expect 'no words for number 17' 0 'REFUSED 17 3
 This program has no words for that number and place.' '' "$words" 17 3 a.plan a.sheet
 expect 'no words for a place within a command' 0 'REFUSED 5 1

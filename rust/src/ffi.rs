@@ -1,10 +1,18 @@
-//! The two C functions of the proved library, behind safe slices.
+//! The three C functions of the proved library, behind safe slices.
 
 #![allow(unsafe_code)]
 
 extern "C" {
     fn pool_build(plan: *const u8, plan_len: usize, buffer: *mut u8, buffer_len: usize) -> u64;
     fn pool_check(plan: *const u8, plan_len: usize, sheet: *const u8, sheet_len: usize) -> u64;
+    fn pool_list(
+        plan: *const u8,
+        plan_len: usize,
+        sheet: *const u8,
+        sheet_len: usize,
+        text: *mut u8,
+        text_len: usize,
+    ) -> u64;
 }
 
 /// Build: L, or 65,536 × number + place.
@@ -17,4 +25,12 @@ pub fn build(plan: &[u8], buffer: &mut [u8]) -> u64 {
 pub fn check(plan: &[u8], sheet: &[u8]) -> u64 {
     // SAFETY: both pointers are good for their lengths and are only read.
     unsafe { pool_check(plan.as_ptr(), plan.len(), sheet.as_ptr(), sheet.len()) }
+}
+
+/// The weekly listing: its length, or 65,536 × number + place.
+pub fn list(plan: &[u8], sheet: &[u8], text: &mut [u8]) -> u64 {
+    let (plan_len, sheet_len, text_len) = (plan.len(), sheet.len(), text.len());
+    let (plan, sheet, text) = (plan.as_ptr(), sheet.as_ptr(), text.as_mut_ptr());
+    // SAFETY: the pointers are good for their lengths; what is written overlaps nothing.
+    unsafe { pool_list(plan, plan_len, sheet, sheet_len, text, text_len) }
 }

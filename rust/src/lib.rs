@@ -1,5 +1,5 @@
 //! The instrument pool in plain Rust: reading plans, worth, building sheets,
-//! checking sheets and handing out one team's page.
+//! checking sheets, handing out one team's page and writing the weekly listing.
 
 #![deny(unsafe_code)]
 
@@ -13,6 +13,7 @@ pub mod family;
 #[cfg(proved)]
 pub mod ffi;
 pub mod form;
+pub mod listing;
 pub mod partition;
 pub mod plan;
 pub mod random;

@@ -2,7 +2,7 @@
 
 mod common;
 
-use common::{cases, damage_field, own_sheet, read, Tally};
+use common::{cases, damage_field, own_sheet, read, some_plan, Tally};
 use pool::bits;
 use pool::build::{contents, divide};
 use pool::check::{answer as check, layout_of, page};
@@ -11,13 +11,6 @@ use pool::plan::Plan;
 use pool::random::Random;
 use pool::sample::any_plan;
 use pool::{brute, definition};
-
-/// A random plan of at most this size.
-fn small_plan(random: &mut Random, instruments: usize, teams: usize) -> Vec<u8> {
-    let m = random.below(instruments + 1);
-    let n = random.between(1, teams);
-    any_plan(random, m, n)
-}
 
 /// The sheet is accepted, and its total and shares are the given ones.
 fn sheet_says(file: &[u8], plan: &Plan, total: u32, share: impl Fn(usize) -> u32) {
@@ -33,7 +26,7 @@ fn sheet_says(file: &[u8], plan: &Plan, total: u32, share: impl Fn(usize) -> u32
 fn worth_is_the_definition() {
     let mut random = Random::new(1);
     for _ in 0..cases() {
-        let file = small_plan(&mut random, 6, 2);
+        let file = some_plan(&mut random, 6, 2);
         let plan = read(&file);
         for team in &plan.teams {
             let table = brute::worth_table(team, plan.instruments);
@@ -50,7 +43,7 @@ fn worth_is_the_definition() {
 fn gains_and_circuits_are_the_definition() {
     let mut random = Random::new(2);
     for _ in 0..cases() {
-        let file = small_plan(&mut random, 10, 1);
+        let file = some_plan(&mut random, 10, 1);
         let plan = read(&file);
         let team = &plan.teams[0];
         let bundle = random.word() & random.word() & plan.all();
@@ -79,7 +72,7 @@ fn gains_and_circuits_are_the_definition() {
 fn the_two_laws_hold() {
     let mut random = Random::new(3);
     for _ in 0..cases() {
-        let file = small_plan(&mut random, 9, 1);
+        let file = some_plan(&mut random, 9, 1);
         let plan = read(&file);
         let team = &plan.teams[0];
         let independent = |set| definition::independent(team, set);
@@ -96,7 +89,7 @@ fn the_two_laws_hold() {
 fn small_plans_against_all_divisions() {
     let mut random = Random::new(4);
     for _ in 0..cases() {
-        let file = small_plan(&mut random, 6, 3);
+        let file = some_plan(&mut random, 6, 3);
         let plan = read(&file);
         let (n, m) = (plan.teams.len(), plan.instruments);
         sheet_says(&file, &plan, brute::best_total(&plan), |team| {
@@ -109,7 +102,7 @@ fn small_plans_against_all_divisions() {
 fn small_plans_with_many_teams() {
     let mut random = Random::new(5);
     for _ in 0..cases() / 40 {
-        let file = small_plan(&mut random, 8, 12);
+        let file = some_plan(&mut random, 8, 12);
         let plan = read(&file);
         let (n, m) = (plan.teams.len(), plan.instruments);
         sheet_says(&file, &plan, brute::best_total_by_sets(&plan), |team| {
@@ -122,7 +115,7 @@ fn small_plans_with_many_teams() {
 fn the_two_searches_agree() {
     let mut random = Random::new(6);
     for _ in 0..cases() / 20 {
-        let plan = read(&small_plan(&mut random, 6, 3));
+        let plan = read(&some_plan(&mut random, 6, 3));
         let (n, m) = (plan.teams.len(), plan.instruments);
         assert_eq!(brute::best_total(&plan), brute::best_total_by_sets(&plan));
         for team in &plan.teams {
@@ -166,7 +159,7 @@ fn greatest_total_alone_meets_16() {
     let mut random = Random::new(8);
     let mut short = 0;
     for _ in 0..cases() / 4 {
-        let file = small_plan(&mut random, 16, 4);
+        let file = some_plan(&mut random, 16, 4);
         let plan = read(&file);
         let mut found = contents(&plan);
         let total = found.total();
@@ -185,7 +178,7 @@ fn accepted_sheets_are_true() {
     let mut random = Random::new(9);
     let mut tally = Tally::default();
     for _ in 0..cases() / 20 {
-        let file = small_plan(&mut random, 5, 3);
+        let file = some_plan(&mut random, 5, 3);
         let plan = read(&file);
         let total = brute::best_total(&plan);
         let layout = layout_of(&plan);

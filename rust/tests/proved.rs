@@ -8,9 +8,13 @@ use pool::build::{contents, divide};
 use pool::check::layout_of;
 use pool::family::FAMILIES;
 use pool::random::Random;
+use pool::refusal::Refusal;
 use pool::sample::any_plan;
 use pool::writer::{plan_a, PlanWriter};
-use pool::{build, check, ffi};
+use pool::{build, check, ffi, listing};
+
+/// The most bytes of the listing of an accepted sheet.
+const MOST_LISTED: usize = 512;
 
 /// Bytes before and after a lent buffer that must stay as they are.
 const GUARD: usize = 40;
@@ -61,13 +65,6 @@ fn same_sheets(file: &[u8], more: usize, salt: u8) {
     assert_eq!(same_verdict(file, &own), 0, "{file:x?}");
     assert_eq!(same_verdict(file, &proved), 0, "{file:x?}");
     assert_eq!(stated(file, &own), stated(file, &proved), "{file:x?}");
-}
-
-/// A random plan of at most this size.
-fn some_plan(random: &mut Random, instruments: usize, teams: usize) -> Vec<u8> {
-    let m = random.below(instruments + 1);
-    let n = random.between(1, teams);
-    any_plan(random, m, n)
 }
 
 #[test]
@@ -299,4 +296,171 @@ fn lent_buffers_around_the_length() {
             }
         }
     }
+}
+
+/// Calls the proved listing on a buffer of this length between guards. Tests the answer,
+/// the text and every byte that must stay; hands back the answer.
+fn same_listing(file: &[u8], sheet: &[u8], length: usize, salt: u8) -> u64 {
+    let mut expected = pattern(length + 2 * GUARD, salt);
+    let mut memory = expected.clone();
+    let answer = ffi::list(file, sheet, &mut memory[GUARD..GUARD + length]);
+    let own = listing::answer(file, sheet, &mut vec![0; length]);
+    assert_eq!(answer, own, "{length} lent: {sheet:x?} by {file:x?}");
+    if own < 65_536 {
+        let text = listing::text(layout_of(&read(file)), sheet);
+        expected[GUARD..][..text.len()].copy_from_slice(text.as_bytes());
+    }
+    assert_eq!(memory, expected, "{length} lent: {sheet:x?} by {file:x?}");
+    answer
+}
+
+/// An accepted sheet is listed alike in buffers of all sorts of length.
+fn same_listings(random: &mut Random, file: &[u8], sheet: &[u8]) {
+    let exact = listing::text(layout_of(&read(file)), sheet).len();
+    assert!(exact <= MOST_LISTED, "{exact}: {sheet:x?} by {file:x?}");
+    let (shorter, longer) = (random.below(exact), exact + random.between(1, 600));
+    for length in [0, shorter, exact - 1, exact, exact + 1, longer] {
+        let answer = same_listing(file, sheet, length, random.byte());
+        let short = Refusal::new(10, exact).code();
+        assert_eq!(answer, if length < exact { short } else { exact as u64 });
+    }
+}
+
+/// The proved sheet of a plan and this crate's own are both listed alike.
+fn same_listings_of_plan(random: &mut Random, file: &[u8]) {
+    let own = own_sheet(file);
+    let proved = proved_build(file, own.len(), 11).expect("a sheet");
+    same_listings(random, file, &own);
+    same_listings(random, file, &proved);
+}
+
+/// A sheet of any sort is listed, or refused, alike in a buffer of a random length.
+fn tally_listing(random: &mut Random, file: &[u8], sheet: &[u8], tally: &mut Tally) {
+    let some = random.below(MOST_LISTED);
+    let length = random.pick(&[0, some, MOST_LISTED, MOST_LISTED + 40]);
+    tally.count(same_listing(file, sheet, length, random.byte()));
+}
+
+#[test]
+fn listings_of_every_size() {
+    let mut random = Random::new(115);
+    for m in 0..=64 {
+        for n in 1..=12 {
+            let file = any_plan(&mut random, m, n);
+            same_listings_of_plan(&mut random, &file);
+        }
+    }
+}
+
+#[test]
+fn listings_of_every_family() {
+    let mut random = Random::new(116);
+    for family in FAMILIES {
+        for n in 1..=12 {
+            let file = (family.plan)(&mut random, 64, n);
+            same_listings_of_plan(&mut random, &file);
+        }
+    }
+}
+
+#[test]
+fn listings_of_small_plans() {
+    let mut random = Random::new(117);
+    for _ in 0..cases() {
+        let file = some_plan(&mut random, 12, 12);
+        same_listings_of_plan(&mut random, &file);
+    }
+}
+
+#[test]
+fn listings_in_buffers_of_every_length() {
+    let mut random = Random::new(118);
+    for round in 0..40 {
+        let most = if round % 4 == 0 { 64 } else { 6 };
+        let file = some_plan(&mut random, most, 12);
+        let sheet = own_sheet(&file);
+        for length in 0..=MOST_LISTED + 20 {
+            same_listing(&file, &sheet, length, random.byte());
+            same_listing(&file, &sheet[1..], length, random.byte());
+        }
+    }
+}
+
+#[test]
+fn listings_of_damaged_sheets() {
+    let mut random = Random::new(119);
+    let mut tally = Tally::default();
+    for round in 0..cases() / 4 {
+        let most = if round % 50 == 0 { 64 } else { 8 };
+        let file = some_plan(&mut random, most, 12);
+        let layout = layout_of(&read(&file));
+        let sheet = own_sheet(&file);
+        for _ in 0..4 {
+            let other = damage(&mut random, &sheet, &file);
+            tally_listing(&mut random, &file, &other, &mut tally);
+            let mut other = sheet.clone();
+            for _ in 0..random.between(1, 4) {
+                damage_field(&mut random, layout, &mut other);
+            }
+            tally_listing(&mut random, &file, &other, &mut tally);
+        }
+    }
+    tally.seen([0].into_iter().chain(10..=16));
+}
+
+#[test]
+fn listings_of_every_byte_of_small_sheets() {
+    let mut random = Random::new(120);
+    let mut tally = Tally::default();
+    let empty = PlanWriter::start(0).caps(0).end();
+    for file in [plan_a(), empty, six_instruments()] {
+        let sheet = own_sheet(&file);
+        for at in 0..sheet.len() {
+            for value in 0..=255 {
+                let mut other = sheet.clone();
+                other[at] = value;
+                tally_listing(&mut random, &file, &other, &mut tally);
+            }
+        }
+    }
+    tally.seen([0, 10, 12, 13, 14, 15].into_iter());
+}
+
+#[test]
+fn listings_by_damaged_plans() {
+    let mut random = Random::new(121);
+    let mut tally = Tally::default();
+    let mut last = plan_a();
+    for _ in 0..cases() / 2 {
+        let file = some_plan(&mut random, 6, 12);
+        let sheet = own_sheet(&file);
+        for other in [
+            damage(&mut random, &file, &last),
+            damage_commands(&mut random, &file),
+            loose_commands(&mut random),
+        ] {
+            tally_listing(&mut random, &other, &sheet, &mut tally);
+        }
+        last = file;
+    }
+    tally.seen(0..=11);
+}
+
+#[test]
+fn listings_of_any_bytes() {
+    let mut random = Random::new(122);
+    let mut tally = Tally::default();
+    for _ in 0..cases() {
+        let file = some_plan(&mut random, 3, 2);
+        let size = layout_of(&read(&file)).length();
+        let other = random.below(200);
+        let length = random.pick(&[0, size, size, other]);
+        let sheet: Vec<u8> = (0..length).map(|_| random.byte()).collect();
+        tally_listing(&mut random, &file, &sheet, &mut tally);
+        tally_listing(&mut random, &sheet, &file, &mut tally);
+    }
+    let (file, sheet) = (plan_a(), own_sheet(&plan_a()));
+    tally_listing(&mut random, &vec![0x01; 70_000], &sheet, &mut tally);
+    tally_listing(&mut random, &file, &vec![0x11; 70_000], &mut tally);
+    same_listing(&file, &sheet, 70_000, 13);
 }

@@ -15,17 +15,31 @@ use Rattle.plan.proofs.Valuing.{valued-long}
 use Rattle.engine.specs.Fill.{ValidAgents}
 use Rattle.engine.specs.Share.{Counted}
 use Rattle.engine.specs.Divide.{Divided}
+use Rattle.command.proofs.Mapped.{first-mapped}
 use Rattle.sheet.specs.Layout.{lengthOf}
 use Rattle.checker.specs.Check.{verdictOf}
 use Rattle.checker.proofs.Acceptance.{accepts}
+use Rattle.builder.specs.declared.Built.{Built}
 use Rattle.builder.specs.declared.Built.the-variants.{Refused, Wrote}
 use Rattle.builder.specs.Rows.{Written}
-use Rattle.builder.specs.Build.{answerBy, buildAnswer, Answered, sheet}
+use Rattle.builder.specs.Build.{buildRules, answerBy, buildAnswer, builtNumber, builtPlace, builtLength, BuildTold, Answered, sheet}
 use Rattle.builder.proofs.Stating.{states, rest-same}
 
 -- the agents of an accepted reading
 pub valid-agents : (r : Reading) (row : List Valuation) → Valid r → row ≡ valuationsOf r → ValidAgents (record { m = r .m; n = r .n; valuations = row })
 valid-agents r row v e = record { small = v .small; some = v .some; few = v .few; valuations-long = valued-long r row e }
+
+-- an answer in the paper's numbers
+pub build-told : (plan before : List ℕ) (a : Built) → a ≡ buildAnswer plan before → BuildTold plan before a
+unfolding answerBy
+build-told plan before a e = record {
+  number = ap builtNumber e ∙ first-mapped builtNumber (Wrote (lengthOf (r .m) (r .n))) (buildRules Refused r (length before));
+  place = ap builtPlace e ∙ first-mapped builtPlace (Wrote (lengthOf (r .m) (r .n))) (buildRules Refused r (length before));
+  long = ap builtLength e ∙ first-mapped builtLength (Wrote (lengthOf (r .m) (r .n))) (buildRules Refused r (length before));
+}
+  where
+    r : Reading
+    r = readPlan plan
 
 module _ (plan before : List ℕ) (r : Reading) (is : r ≡ readPlan plan) where
   pub answer-read : r .refusal ≢ 0 → Refused (r .refusal) (r .place) ≡ buildAnswer plan before

@@ -1,6 +1,6 @@
 // Build: writes a sheet that Check accepts.
 ghost use mathlib.Core.Path.{_≡_};
-ghost use Rattle.builder.specs.Build.{buildAnswer, Answered};
+ghost use Rattle.builder.specs.Build.{buildAnswer, Answered, BuildTold};
 use exchange::Agents;
 
 pub mod write;
@@ -15,6 +15,7 @@ pub enum Built {
 pub fn build(plan: &[u8], buffer: &mut [u8]) -> Built
     ensures answer { λ r. ⌜ r ≡ buildAnswer (now (plan .entry)) (now (buffer .entry)) ⌝ }
     ensures bytes { λ r. ⌜ Answered (now (plan .entry)) (now (buffer .entry)) (now (buffer .exit)) r ⌝ }
+    ensures told { λ r. ⌜ BuildTold (now (plan .entry)) (now (buffer .entry)) r ⌝ }
 {
     let r = plan::read(plan);
     if r.refusal != 0 {

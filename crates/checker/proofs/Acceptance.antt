@@ -59,26 +59,26 @@ unbroken false number place rest h = (refl, h)
 
 module _ (r : Reading) (sheet : List ℕ) where
   -- the test of rule 15 for a team
-  share-test : ℕ → Bool
+  unfoldable pub share-test : ℕ → Bool
   share-test t = shareHolds (teamMatroid r t) (r .n) (shareAt (r .m) sheet t) (setAt (r .m) sheet t) (partAt (r .m) sheet t)
 
   -- ---- from acceptance to the facts
 
   -- rule 15 for one team
-  share-reached : (t : ℕ) → share-test t ≡ true → (p : ℕ) → p < r .n → shareAt (r .m) sheet t ≤ worth (teamMatroid r t) (bundle (partAt (r .m) sheet t) p)
+  pub share-reached : (t : ℕ) → share-test t ≡ true → (p : ℕ) → p < r .n → shareAt (r .m) sheet t ≤ worth (teamMatroid r t) (bundle (partAt (r .m) sheet t) p)
   unfolding share-test shareHolds partsHold
   share-reached t e p l = leb-true _ _ (every-all (r .n) (λ p. leb (shareAt (r .m) sheet t) (worth (teamMatroid r t) (bundle (partAt (r .m) sheet t) p))) (and-left _ _ e) p l)
 
-  share-limited : (t : ℕ) → share-test t ≡ true → size (r .m) (complement (bit (setAt (r .m) sheet t))) + r .n * worth (teamMatroid r t) (bit (setAt (r .m) sheet t)) < r .n * (shareAt (r .m) sheet t + 1)
+  pub share-limited : (t : ℕ) → share-test t ≡ true → size (r .m) (complement (bit (setAt (r .m) sheet t))) + r .n * worth (teamMatroid r t) (bit (setAt (r .m) sheet t)) < r .n * (shareAt (r .m) sheet t + 1)
   unfolding share-test shareHolds
   share-limited t e = ltb-true _ _ (and-right (partsHold (teamMatroid r t) (r .n) (shareAt (r .m) sheet t) (partAt (r .m) sheet t)) _ e)
 
   -- rule 14
-  total-given : totalHolds (r .n) (teamMatroid r) sheet ≡ true → totalAt sheet ≡ size (r .m) (held (r .n) (holderAt sheet))
+  pub total-given : totalHolds (r .n) (teamMatroid r) sheet ≡ true → totalAt sheet ≡ size (r .m) (held (r .n) (holderAt sheet))
   unfolding totalHolds
   total-given e = eqb-true _ _ (and-left _ _ e)
 
-  total-bound : totalHolds (r .n) (teamMatroid r) sheet ≡ true → totalAt sheet ≡ size (r .m) (complement (bit (boundAt (r .m) sheet))) + sum (r .n) (λ t. worth (teamMatroid r t) (bit (boundAt (r .m) sheet)))
+  pub total-bound : totalHolds (r .n) (teamMatroid r) sheet ≡ true → totalAt sheet ≡ size (r .m) (complement (bit (boundAt (r .m) sheet))) + sum (r .n) (λ t. worth (teamMatroid r t) (bit (boundAt (r .m) sheet)))
   unfolding totalHolds boundOf
   total-bound e = eqb-true _ _ (and-right (eqb (totalAt sheet) (size (r .m) (held (r .n) (holderAt sheet)))) _ e)
 
@@ -166,7 +166,7 @@ module _ (r : Reading) (sheet : List ℕ) where
     -- ---- from the facts to what they mean
 
     -- all that is given, counted team by team
-    given-sum : size (r .m) (held (r .n) (holderAt sheet)) ≡ sum (r .n) (λ t. size (r .m) (bundle (holderAt sheet) t))
+    pub given-sum : size (r .m) (held (r .n) (holderAt sheet)) ≡ sum (r .n) (λ t. size (r .m) (bundle (holderAt sheet) t))
     given-sum =
         whole (held (r .n) (holderAt sheet))
         ∙ sym (sum-bundles (r .m) (r .n) (holderAt sheet) all)

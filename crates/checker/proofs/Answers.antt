@@ -10,11 +10,14 @@ use Rattle.plan.specs.declared.Reading.{Reading}
 use Rattle.plan.specs.Read.{readPlan}
 use Rattle.plan.specs.Valid.{Valid}
 use Rattle.plan.proofs.Bounds.{valid-reading}
+use Rattle.command.proofs.Mapped.{first-mapped}
 use Rattle.sheet.specs.Layout.{shareStart}
 use Rattle.sheet.proofs.Sizes.{share-inside}
 use Rattle.checker.specs.declared.Verdict.{Verdict}
 use Rattle.checker.specs.declared.Verdict.the-variants.{Accepted, Refused}
-use Rattle.checker.specs.Check.{verdictOf, checkSheet}
+use Rattle.checker.specs.Verdict.{verdictNumber, verdictPlace}
+use Rattle.checker.specs.Check.{sheetRules, verdictOf, checkSheet}
+use Rattle.checker.specs.Told.{CheckTold}
 use Rattle.checker.specs.Stated.{Stated}
 use Rattle.checker.specs.Fair.{Fair}
 use Rattle.checker.specs.Page.{accepts, pageBy, pageOf}
@@ -33,6 +36,13 @@ module _ (plan sheet : List ℕ) (r : Reading) (is-r : r ≡ readPlan plan) wher
 
   pub check-fair : (v : Verdict) → v ≡ verdictOf r sheet → v ≡ Accepted → Fair plan sheet
   check-fair v e a = fair plan sheet (sym (check-verdict v e) ∙ a)
+
+  pub check-told : (v : Verdict) → v ≡ verdictOf r sheet → CheckTold plan sheet v
+  unfolding verdictOf
+  check-told v e = record {
+    number = ap verdictNumber (check-verdict v e) ∙ first-mapped verdictNumber Accepted (sheetRules Refused (readPlan plan) sheet);
+    place = ap verdictPlace (check-verdict v e) ∙ first-mapped verdictPlace Accepted (sheetRules Refused (readPlan plan) sheet);
+  }
 
   -- Page
 

@@ -82,14 +82,14 @@ module _ (r : Reading) (sheet : List ℕ) (M : ℕ → Matroid (r .m)) (is-M : _
   by-total : (b : Bool) → totalHolds (r .n) M sheet ≡ b → totalHolds (r .n) (teamMatroid r) sheet ≡ b
   by-total b e = sym (ap (λ (x : ℕ → Matroid (r .m)). totalHolds (r .n) x sheet) is-M) ∙ e
 
-  pub weigh-13 : d < r .n → Refused 13 d ≡ firstBroken Accepted (divisionRules r sheet)
+  pub weigh-13 : d < r .n → Refused 13 d ≡ firstBroken Accepted (divisionRules Refused r sheet)
   weigh-13 l = ap (Refused 13) is-d ∙ broken _ _ _ (lt-ltb (dependentAt (r .n) (teamMatroid r) (holderAt sheet)) (r .n) (omega (arith, is-d)))
 
   module _ (kept-13 : r .n ≤ d) where
-    past-13 : (v : Verdict) → v ≡ firstBroken Accepted (rule (not (totalHolds (r .n) (teamMatroid r) sheet)) (Refused 14 0) ∷ rule (ltb (wrongShareAt (r .n) (teamMatroid r) sheet) (r .n)) (Refused 15 (wrongShareAt (r .n) (teamMatroid r) sheet)) ∷ rule (ltb (shortAt (r .m) (r .n) sheet) (r .n)) (Refused 16 (shortAt (r .m) (r .n) sheet)) ∷ []) → v ≡ firstBroken Accepted (divisionRules r sheet)
+    past-13 : (v : Verdict) → v ≡ firstBroken Accepted (rule (not (totalHolds (r .n) (teamMatroid r) sheet)) (Refused 14 0) ∷ rule (ltb (wrongShareAt (r .n) (teamMatroid r) sheet) (r .n)) (Refused 15 (wrongShareAt (r .n) (teamMatroid r) sheet)) ∷ rule (ltb (shortAt (r .m) (r .n) sheet) (r .n)) (Refused 16 (shortAt (r .m) (r .n) sheet)) ∷ []) → v ≡ firstBroken Accepted (divisionRules Refused r sheet)
     past-13 v h = kept _ _ _ v (le-ltb (dependentAt (r .n) (teamMatroid r) (holderAt sheet)) (r .n) (omega (arith, is-d))) h
 
-    pub weigh-14 : totalHolds (r .n) M sheet ≡ false → Refused 14 0 ≡ firstBroken Accepted (divisionRules r sheet)
+    pub weigh-14 : totalHolds (r .n) M sheet ≡ false → Refused 14 0 ≡ firstBroken Accepted (divisionRules Refused r sheet)
     weigh-14 e = past-13 (Refused 14 0) (broken _ _ _ (ap not (by-total false e)))
 
     module _ (holds : totalHolds (r .n) M sheet ≡ true) (w : ℕ) (by-w : w ≡ wrongShareAt (r .n) M sheet) where
@@ -99,17 +99,17 @@ module _ (r : Reading) (sheet : List ℕ) (M : ℕ → Matroid (r .m)) (is-M : _
       is-w : w ≡ wrongShareAt (r .n) (teamMatroid r) sheet
       is-w = by-w ∙ ap (λ (x : ℕ → Matroid (r .m)). wrongShareAt (r .n) x sheet) is-M
 
-      pub weigh-15 : w < r .n → Refused 15 w ≡ firstBroken Accepted (divisionRules r sheet)
+      pub weigh-15 : w < r .n → Refused 15 w ≡ firstBroken Accepted (divisionRules Refused r sheet)
       weigh-15 l = ap (Refused 15) is-w ∙ past-13 _ (kept _ _ _ _ (ap not kept-14) (broken _ _ _ (lt-ltb (wrongShareAt (r .n) (teamMatroid r) sheet) (r .n) (omega (arith, is-w)))))
 
       module _ (kept-15 : r .n ≤ w) (k : ℕ) (is-k : k ≡ shortAt (r .m) (r .n) sheet) where
-        past-15 : (v : Verdict) → v ≡ firstBroken Accepted (rule (ltb (shortAt (r .m) (r .n) sheet) (r .n)) (Refused 16 (shortAt (r .m) (r .n) sheet)) ∷ []) → v ≡ firstBroken Accepted (divisionRules r sheet)
+        past-15 : (v : Verdict) → v ≡ firstBroken Accepted (rule (ltb (shortAt (r .m) (r .n) sheet) (r .n)) (Refused 16 (shortAt (r .m) (r .n) sheet)) ∷ []) → v ≡ firstBroken Accepted (divisionRules Refused r sheet)
         past-15 v h = past-13 v (kept _ _ _ v (ap not kept-14) (kept _ _ _ v (le-ltb (wrongShareAt (r .n) (teamMatroid r) sheet) (r .n) (omega (arith, is-w))) h))
 
-        pub weigh-16 : k < r .n → Refused 16 k ≡ firstBroken Accepted (divisionRules r sheet)
+        pub weigh-16 : k < r .n → Refused 16 k ≡ firstBroken Accepted (divisionRules Refused r sheet)
         weigh-16 l = ap (Refused 16) is-k ∙ past-15 _ (broken _ _ _ (lt-ltb (shortAt (r .m) (r .n) sheet) (r .n) (omega arith)))
 
-        pub weigh-none : r .n ≤ k → Accepted ≡ firstBroken Accepted (divisionRules r sheet)
+        pub weigh-none : r .n ≤ k → Accepted ≡ firstBroken Accepted (divisionRules Refused r sheet)
         weigh-none l = past-15 Accepted (kept _ _ _ Accepted (le-ltb (shortAt (r .m) (r .n) sheet) (r .n) (omega arith)) refl)
 
 -- ---- Read's refusals, 11 and 12
@@ -133,7 +133,7 @@ module _ (r : Reading) (sheet : List ℕ) where
           (kept _ _ _ _ (ap not (eq-eqb (length sheet) (lengthOf (r .m) (r .n)) (same ∙ is-long)))
           (broken _ _ _ (lt-ltb (firstFault (form (r .m) (r .n)) sheet 0) (lengthOf (r .m) (r .n)) (omega arith))))
 
-      pub judge-rest : long ≤ f → (v : Verdict) → v ≡ firstBroken Accepted (divisionRules r sheet) → v ≡ verdictOf r sheet
+      pub judge-rest : long ≤ f → (v : Verdict) → v ≡ firstBroken Accepted (divisionRules Refused r sheet) → v ≡ verdictOf r sheet
       unfolding verdictOf
       judge-rest l v h =
           kept _ _ _ v (ap not (eq-eqb (r .refusal) 0 read))

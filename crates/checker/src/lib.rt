@@ -8,6 +8,7 @@ ghost use Rattle.checker.specs.declared.Verdict.{Verdict};
 ghost use Rattle.checker.specs.Verdict.{verdictNumber, verdictPlace};
 ghost use Rattle.command.specs.Rule.{firstBroken};
 ghost use Rattle.checker.specs.Check.{divisionRules, verdictOf, checkSheet};
+ghost use Rattle.checker.specs.Told.{CheckTold};
 ghost use Rattle.checker.specs.Fair.{Fair};
 ghost use Rattle.checker.specs.Page.{accepts, pageOf};
 use plan::Reading;
@@ -44,7 +45,7 @@ pub fn place(v: Verdict) -> usize
 // The rules about the division and the shares, 13 to 16, on a sheet of the right form.
 fn weigh(r: Reading, sheet: &[u8]) -> Verdict
     requires { ⌜ Valid r × (lengthOf (r .m) (r .n) ≤ length (now sheet)) ⌝ }
-    ensures { λ v. ⌜ v ≡ firstBroken Verdict.Accepted (divisionRules r (now (sheet .entry))) ⌝ }
+    ensures { λ v. ⌜ v ≡ firstBroken Verdict.Accepted (divisionRules Verdict.Refused r (now (sheet .entry))) ⌝ }
 {
     let m = r.m;
     let n = r.n;
@@ -97,6 +98,7 @@ fn judge(r: Reading, sheet: &[u8]) -> Verdict
 pub fn check(plan: &[u8], sheet: &[u8]) -> Verdict
     ensures verdict { λ v. ⌜ v ≡ checkSheet (now (plan .entry)) (now (sheet .entry)) ⌝ }
     ensures fair { λ v. ⌜ (v ≡ Verdict.Accepted → Fair (now (plan .entry)) (now (sheet .entry))) ⌝ }
+    ensures told { λ v. ⌜ CheckTold (now (plan .entry)) (now (sheet .entry)) v ⌝ }
 {
     judge(plan::read(plan), sheet)
 }

@@ -24,6 +24,10 @@ use Rattle.checker.specs.declared.Verdict.{Verdict}
 use Rattle.checker.specs.declared.Verdict.the-variants as verdict
 use Rattle.checker.specs.Verdict.{verdictNumber, verdictPlace}
 use Rattle.checker.specs.Check.{divisionRules, verdictOf, checkSheet}
+use Rattle.listing.specs.Listing.{listingBy}
+use Rattle.listing.specs.Lent.{textAnswer}
+use Rattle.listing.specs.List.{answerBy as listAnswerBy, listAnswer}
+use Rattle.listing.proofs.Most.{listing-most}
 
 -- ---- Build's refusals
 
@@ -52,7 +56,7 @@ abbrev tail-rules : Reading → List ℕ → List (Rule Verdict)
 tail-rules r sheet =
     rule (not (eqb (length sheet) (lengthOf (r .m) (r .n)))) (verdict.Refused 11 0)
     ∷ rule (ltb (firstFault (form (r .m) (r .n)) sheet 0) (lengthOf (r .m) (r .n))) (verdict.Refused 12 (firstFault (form (r .m) (r .n)) sheet 0))
-    ∷ divisionRules r sheet
+    ∷ divisionRules verdict.Refused r sheet
 
 -- a broken rule has a small number and place
 abbrev SmallRule : Rule Verdict → Type 0
@@ -99,13 +103,42 @@ verdict-small plan sheet = go (eqb (readPlan plan .refusal) 0) refl
           ),
         )
 
--- the same of an answer that is a refusal
-pub built-told : (plan buffer : List ℕ) (a : Built) (n p : ℕ) → a ≡ buildAnswer plan buffer → a ≡ Refused n p → (n ≤ 16) × (p < 65536)
-built-told plan buffer a n p e t =
-    let s = built-small plan buffer in
+-- ---- the listing's refusals
+
+-- a text of at most 512 bytes in a lent buffer
+text-small : (text buffer : List ℕ) → length text ≤ 512 → (builtNumber (textAnswer text buffer) ≤ 16) × (builtPlace (textAnswer text buffer) < 65536)
+unfolding textAnswer
+text-small text buffer l = go (ltb (length buffer) (length text))
+  where
+    go : (b : Bool) → (builtNumber (cond b (Refused 10 (length text)) (Wrote (length text))) ≤ 16) × (builtPlace (cond b (Refused 10 (length text)) (Wrote (length text))) < 65536)
+    go true = (omega arith, omega arith)
+    go false = (omega arith, omega arith)
+
+-- Check's refusal, or 10 at the length of the listing
+pub list-small : (plan sheet buffer : List ℕ) → (builtNumber (listAnswer plan sheet buffer) ≤ 16) × (builtPlace (listAnswer plan sheet buffer) < 65536)
+list-small plan sheet buffer = go (checkSheet plan sheet) refl
+  where
+    text : List ℕ
+    text = listingBy (readPlan plan) sheet
+
+    go : (v : Verdict) → checkSheet plan sheet ≡ v → (builtNumber (listAnswerBy v text buffer) ≤ 16) × (builtPlace (listAnswerBy v text buffer) < 65536)
+    go verdict.Accepted e = text-small text buffer (listing-most plan sheet e)
+    go (verdict.Refused number place) e = rw e at (verdict-small plan sheet)
+
+-- ---- the same of an answer that is a refusal
+
+-- of Build and of the listing, by what is known of the answer
+refusal-told : (answer a : Built) (n p : ℕ) → (builtNumber answer ≤ 16) × (builtPlace answer < 65536) → a ≡ answer → a ≡ Refused n p → (n ≤ 16) × (p < 65536)
+refusal-told answer a n p s e t =
     let number′ = ap builtNumber (sym t ∙ e) in
     let place′ = ap builtPlace (sym t ∙ e) in
     (omega arith, omega arith)
+
+pub built-told : (plan buffer : List ℕ) (a : Built) (n p : ℕ) → a ≡ buildAnswer plan buffer → a ≡ Refused n p → (n ≤ 16) × (p < 65536)
+built-told plan buffer a n p = refusal-told (buildAnswer plan buffer) a n p (built-small plan buffer)
+
+pub list-told : (plan sheet buffer : List ℕ) (a : Built) (n p : ℕ) → a ≡ listAnswer plan sheet buffer → a ≡ Refused n p → (n ≤ 16) × (p < 65536)
+list-told plan sheet buffer a n p = refusal-told (listAnswer plan sheet buffer) a n p (list-small plan sheet buffer)
 
 pub verdict-told : (plan sheet : List ℕ) (v : Verdict) (n p : ℕ) → v ≡ checkSheet plan sheet → v ≡ verdict.Refused n p → (n ≤ 16) × (p < 65536)
 verdict-told plan sheet v n p e t =

@@ -5,7 +5,7 @@ use Rattle.builder.specs.declared.Built.the-variants.{Refused, Wrote}
 use Rattle.checker.specs.declared.Verdict.{Verdict}
 use Rattle.checker.specs.declared.Verdict.the-variants as verdict
 
--- Build's answer: L, or the refusal
+-- the answer of Build and of the listing: the length, or the refusal
 abbrev pub deskBuilt : Built → ℕ
 deskBuilt (Refused number place) = 65536 * number + place
 deskBuilt (Wrote long) = long

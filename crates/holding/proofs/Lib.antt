@@ -4,3 +4,4 @@ pub mod Words
 pub mod Fits
 pub mod Carried
 pub mod Applies
+pub mod Restores

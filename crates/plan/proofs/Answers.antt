@@ -17,10 +17,11 @@ use Rattle.kinds.proofs.Nothing.{blank-worth}
 use Rattle.team.specs.declared.Team.{Team}
 use Rattle.plan.specs.declared.Reading.{Reading}
 use Rattle.command.specs.declared.State.{State}
+use Rattle.plan.specs.declared.Answer.{Answer}
 use Rattle.plan.specs.declared.Answer.the-variants.{Refused, Worth}
 use Rattle.plan.specs.Read.{refused, accepted, readPlan}
 use Rattle.plan.specs.Teams.{valuationOf, teamMatroid}
-use Rattle.plan.specs.Worth.{answerOf, worthAnswer, worthNumber, worthPlace, worthValue}
+use Rattle.plan.specs.Worth.{answerOf, worthAnswer, worthNumber, worthPlace, worthValue, WorthTold}
 use Rattle.plan.proofs.Bounds.{all-readings}
 
 module _ (file : List ℕ) (team set : ℕ) (r : Reading) (is : r ≡ readPlan file) where
@@ -42,6 +43,10 @@ module _ (file : List ℕ) (team set : ℕ) (r : Reading) (is : r ≡ readPlan f
 
 -- ---- the answer's numbers
 
+-- "to a team not in the plan every set is worth 0"
+pub absent-worth : (r : Reading) (team set : ℕ) → r .n ≤ team → worth (teamMatroid r team) (bit set) ≡ 0
+absent-worth r team set l = rw (le-ltb team (r .n) l) (blank-worth (r .m) (bit set))
+
 -- an accepted reading has place 0, and a refused one no team
 rest-zero : (file : List ℕ) → (readPlan file .refusal ≡ 0 → readPlan file .place ≡ 0) × (readPlan file .refusal ≢ 0 → readPlan file .n ≡ 0)
 rest-zero file = all-readings file (λ r. (r .refusal ≡ 0 → r .place ≡ 0) × (r .refusal ≢ 0 → r .n ≡ 0)) (λ at s teams _ _ d. (λ z. absurd (d z), λ _. refl)) (λ at s teams _ _ _ _. ended at s teams (ltb (at + 1) (length file))) (λ z. absurd (omega arith), λ _. refl)
@@ -52,22 +57,22 @@ rest-zero file = all-readings file (λ r. (r .refusal ≡ 0 → r .place ≡ 0) 
     ended at s teams false = (λ _. refl, λ d. absurd (d refl))
 
 -- Worth answers Read's number and place, and what the set is worth, for any bytes
-pub worth-told : (file : List ℕ) (team set : ℕ)
-    → (worthNumber (worthAnswer file team set) ≡ readPlan file .refusal) × (worthPlace (worthAnswer file team set) ≡ readPlan file .place)
-    × (worthValue (worthAnswer file team set) ≡ worth (teamMatroid (readPlan file) team) (bit set))
+worth-told : (file : List ℕ) (team set : ℕ) → WorthTold file team set (worthAnswer file team set)
 unfolding answerOf
 worth-told file team set = go (ℕ-discrete (r .refusal) 0) (rest-zero file)
   where
     r : Reading
     r = readPlan file
 
-    go : Dec (r .refusal ≡ 0) → (r .refusal ≡ 0 → r .place ≡ 0) × (r .refusal ≢ 0 → r .n ≡ 0)
-        → (worthNumber (answerOf r team set) ≡ r .refusal) × (worthPlace (answerOf r team set) ≡ r .place) × (worthValue (answerOf r team set) ≡ worth (teamMatroid r team) (bit set))
+    go : Dec (r .refusal ≡ 0) → (r .refusal ≡ 0 → r .place ≡ 0) × (r .refusal ≢ 0 → r .n ≡ 0) → WorthTold file team set (answerOf r team set)
     go (yes z) (place, _) =
         let here : answerOf r team set ≡ Worth (worth (teamMatroid r team) (bit set)) = rw (eq-eqb (r .refusal) 0 z, answerOf) refl in
-        (ap worthNumber here ∙ sym z, ap worthPlace here ∙ sym (place z), ap worthValue here)
+        record { number = ap worthNumber here ∙ sym z; place = ap worthPlace here ∙ sym (place z); value = ap worthValue here }
     go (no d) (_, none) =
         let here : answerOf r team set ≡ Refused (r .refusal) (r .place) = rw (ne-eqb (r .refusal) 0 d, answerOf) refl in
         let e = none d in
-        let zero : worth (teamMatroid r team) (bit set) ≡ 0 = rw (le-ltb team (r .n) (omega arith)) (blank-worth (r .m) (bit set)) in
-        (ap worthNumber here, ap worthPlace here, ap worthValue here ∙ sym zero)
+        record { number = ap worthNumber here; place = ap worthPlace here; value = ap worthValue here ∙ sym (absent-worth r team set (omega arith)) }
+
+-- an answer, and its numbers
+pub answer-told : (file : List ℕ) (team set : ℕ) (a : Answer) → a ≡ worthAnswer file team set → (a ≡ worthAnswer file team set) × WorthTold file team set a
+answer-told file team set a e = (e, rw e (worth-told file team set))

@@ -1,5 +1,6 @@
 -- Worth (document 01).
 use Prim.Native.Nat.{ℕ}
+use mathlib.Core.Path.{_≡_}
 use mathlib.Core.Bool.{true, false}
 use mathlib.Core.List.{List}
 use lib.Dec.{eqb}
@@ -34,3 +35,10 @@ worthPlace (Worth w) = 0
 abbrev pub worthValue : Answer → ℕ
 worthValue (Refused number place) = 0
 worthValue (Worth w) = w
+
+-- Worth's answer in the paper's numbers: Read's number and place, and what the set is worth to the team. After a refusal there is no team, and
+-- "to a team not in the plan every set is worth 0".
+pub record WorthTold (file : List ℕ) (team set : ℕ) (answer : Answer) : Type 0 where
+  pub number : worthNumber answer ≡ readPlan file .refusal
+  pub place : worthPlace answer ≡ readPlan file .place
+  pub value : worthValue answer ≡ worth (teamMatroid (readPlan file) team) (bit set)

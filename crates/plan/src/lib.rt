@@ -4,7 +4,7 @@ ghost use lib.ListN.{getD};
 ghost use Rattle.plan.specs.Read.{readPlan, refused, finished};
 ghost use Rattle.plan.specs.Teams.{valuationsOf};
 ghost use Rattle.plan.specs.Valid.{Valid};
-ghost use Rattle.plan.specs.Worth.{worthAnswer};
+ghost use Rattle.plan.specs.Worth.{worthAnswer, WorthTold};
 use command::State;
 use command::decode;
 use command::reader::Reader;
@@ -126,7 +126,8 @@ pub enum Answer {
 
 // Worth, on the bytes of a plan: what a set is worth to a team of it.
 pub fn worth(file: &[u8], team: usize, set: u64) -> Answer
-    ensures { λ r. ⌜ r ≡ worthAnswer (now (file .entry)) team set ⌝ }
+    ensures answer { λ r. ⌜ r ≡ worthAnswer (now (file .entry)) team set ⌝ }
+    ensures told { λ r. ⌜ WorthTold (now (file .entry)) team set r ⌝ }
 {
     let r = read(file);
     if r.refusal != 0 {

@@ -4,6 +4,7 @@
 
 use pool::plan::{operand_count, Plan};
 use pool::random::Random;
+use pool::sample::any_plan;
 use pool::sheet::Layout;
 
 /// The number of small cases; POOL_CASES asks for a longer run.
@@ -15,6 +16,13 @@ pub fn cases() -> usize {
 /// A reading that is known to succeed.
 pub fn read(file: &[u8]) -> Plan {
     pool::plan::read(file).expect("a valid plan")
+}
+
+/// A random plan of at most this size.
+pub fn some_plan(random: &mut Random, instruments: usize, teams: usize) -> Vec<u8> {
+    let m = random.below(instruments + 1);
+    let n = random.between(1, teams);
+    any_plan(random, m, n)
 }
 
 /// Bytes from hexadecimal, spaces allowed.

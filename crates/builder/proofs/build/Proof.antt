@@ -6,7 +6,7 @@ use Rattle.plan.proofs.Bounds.{valid-reading}
 use Rattle.engine.proofs.Sizes.{given-le}
 use Rattle.engine.proofs.Sharing.{given-count}
 use Rattle.builder.specs.Build.{untouched}
-use Rattle.builder.proofs.Answering.{valid-agents, answer-read, answer-short, answer-wrote, sheet-wrote}
+use Rattle.builder.proofs.Answering.{valid-agents, build-told, answer-read, answer-short, answer-wrote, sheet-wrote}
 use borrow.Author.Needs.{needs}
 use Rattle.builder.proofs.build.Statement.{statement}
 use Rattle.builder.proofs.build.Tie as tie
@@ -15,13 +15,13 @@ read-requires : tie.Need-read-requires
 read-requires c κs = search needs
 
 returns : tie.Need-returns
-returns c = (answer-read _ (now (c .before .before .before .before .before .args .buffer)) _ (c .before .before .read .ensures) (c .if1 .taken), untouched _ _ refl)
+returns c = let e = answer-read _ (now (c .before .before .before .before .before .args .buffer)) _ (c .before .before .read .ensures) (c .if1 .taken) in (e, (untouched _ _ refl, build-told _ _ _ e))
 
 length-requires : tie.Need-length-requires
 length-requires c κs = let v = valid-reading _ _ (c .before .before .read .ensures) (c .if1 .left) in (v .small, v .few)
 
 returns-2 : tie.Need-returns-2
-returns-2 c = (answer-short _ (now (c .before .before .before .before .before .before .before .args .buffer)) _ (c .before .before .before .before .read .ensures) (c .before .before .if1 .left) _ (c .before .length .ensures) (c .if2 .taken), untouched _ _ refl)
+returns-2 c = let e = answer-short _ (now (c .before .before .before .before .before .before .before .args .buffer)) _ (c .before .before .before .before .read .ensures) (c .before .before .if1 .left) _ (c .before .length .ensures) (c .if2 .taken) in (e, (untouched _ _ refl, build-told _ _ _ e))
 
 valuations-of-requires : tie.Need-valuations-of-requires
 valuations-of-requires c κs = valid-reading _ _ (c .before .before .before .before .read .ensures) (c .before .before .if1 .left)
@@ -42,7 +42,7 @@ same-length : tie.Need-same-length
 same-length c = search needs
 
 returns-3 : tie.Need-returns-3
-returns-3 c = let v = valid-reading _ _ (c .before .before .before .before .before .before .before .before .before .before .before .before .read .ensures) (c .before .before .before .before .before .before .before .before .before .before .if1 .left) in (answer-wrote _ (now (c .before .before .before .before .before .before .before .before .before .before .before .before .before .before .before .args .buffer)) _ (c .before .before .before .before .before .before .before .before .before .before .before .before .read .ensures) (c .before .before .before .before .before .before .before .before .before .before .if1 .left) _ (c .before .before .before .before .before .before .before .before .before .length .ensures) (c .before .before .before .before .before .before .before .before .if2 .left), sheet-wrote _ (now (c .before .before .before .before .before .before .before .before .before .before .before .before .before .before .before .args .buffer)) _ (c .before .before .before .before .before .before .before .before .before .before .before .before .read .ensures) v (c .before .before .before .before .before .before .before .before .before .before .if1 .left) _ (c .before .before .before .before .before .before .before .before .before .length .ensures) (c .before .before .before .before .before .before .before .before .if2 .left) _ (c .before .before .before .before .before .before .before .valuations-of .ensures) _ _ (c .before .before .before .before .before .before .divide .result) (c .before .before .write-sheet .ensures) (c .before .before .before .before .before .before .divide .ensures) (c .before .before .before .before .count-given .ensures))
+returns-3 c = let v = valid-reading _ _ (c .before .before .before .before .before .before .before .before .before .before .before .before .read .ensures) (c .before .before .before .before .before .before .before .before .before .before .if1 .left) in let e = answer-wrote _ (now (c .before .before .before .before .before .before .before .before .before .before .before .before .before .before .before .args .buffer)) _ (c .before .before .before .before .before .before .before .before .before .before .before .before .read .ensures) (c .before .before .before .before .before .before .before .before .before .before .if1 .left) _ (c .before .before .before .before .before .before .before .before .before .length .ensures) (c .before .before .before .before .before .before .before .before .if2 .left) in (e, (sheet-wrote _ (now (c .before .before .before .before .before .before .before .before .before .before .before .before .before .before .before .args .buffer)) _ (c .before .before .before .before .before .before .before .before .before .before .before .before .read .ensures) v (c .before .before .before .before .before .before .before .before .before .before .if1 .left) _ (c .before .before .before .before .before .before .before .before .before .length .ensures) (c .before .before .before .before .before .before .before .before .if2 .left) _ (c .before .before .before .before .before .before .before .valuations-of .ensures) _ _ (c .before .before .before .before .before .before .divide .result) (c .before .before .write-sheet .ensures) (c .before .before .before .before .before .before .divide .ensures) (c .before .before .before .before .count-given .ensures), build-told _ _ _ e))
 
 pub build-spec : {M : Type 1} → statement M
 build-spec =

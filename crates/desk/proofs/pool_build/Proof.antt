@@ -27,13 +27,13 @@ same-length : tie.Need-same-length
 same-length c = search needs
 
 returns : tie.Need-returns
-returns c = (ap deskBuilt (sym (c .before .b .given .1) ∙ c .before .before .before .before .before .build .ensures .0), subst (Answered _ _ _) (c .before .before .before .before .before .build .ensures .0) (c .before .before .before .before .before .build .ensures .1))
+returns c = (ap deskBuilt (sym (c .before .b .given .1) ∙ c .before .before .before .before .before .build .ensures .0), subst (Answered _ _ _) (c .before .before .before .before .before .build .ensures .0) (c .before .before .before .before .before .build .ensures .1 .0))
 
 same-length-2 : tie.Need-same-length-2
 same-length-2 c = search needs
 
 returns-2 : tie.Need-returns-2
-returns-2 c = (ap deskBuilt (sym (c .before .b2 .given .1) ∙ c .before .before .before .before .before .build .ensures .0), subst (Answered _ _ _) (c .before .before .before .before .before .build .ensures .0) (c .before .before .before .before .before .build .ensures .1))
+returns-2 c = (ap deskBuilt (sym (c .before .b2 .given .1) ∙ c .before .before .before .before .before .build .ensures .0), subst (Answered _ _ _) (c .before .before .before .before .before .build .ensures .0) (c .before .before .before .before .before .build .ensures .1 .0))
 
 pub pool-build-spec : {M : Type 1} → statement M
 pool-build-spec =

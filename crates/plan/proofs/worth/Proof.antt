@@ -2,21 +2,19 @@
 use native.Mathlib.Omega.{arith}
 use Rattle.plan.proofs.Bounds.{valid-reading}
 use Rattle.plan.proofs.Valuing.{valued-here, valued-long}
-use Rattle.plan.proofs.Answers.{answer-refused, answer-worth, answer-absent}
+use Rattle.plan.proofs.Answers.{answer-refused, answer-worth, answer-absent, answer-told}
 use borrow.Author.Needs.{needs}
 use Rattle.plan.proofs.worth.Statement.{statement}
 use Rattle.plan.proofs.worth.Tie as tie
-use Rattle.plan.proofs.worth.Reads as reads
-use Rattle.plan.proofs.worth.Lts as lts
 
 read-requires : tie.Need-read-requires
 read-requires c κs = search needs
 
 returns : tie.Need-returns
-returns c = answer-refused _ _ _ _ (c .before .before .read .ensures) (c .if1 .taken)
+returns c = answer-told _ _ _ _ (answer-refused _ _ _ _ (c .before .before .read .ensures) (c .if1 .taken))
 
 returns-2 : tie.Need-returns-2
-returns-2 c = answer-absent _ _ _ _ (c .before .before .before .before .read .ensures) (c .before .before .if1 .left) (c .if2 .taken)
+returns-2 c = answer-told _ _ _ _ (answer-absent _ _ _ _ (c .before .before .before .before .read .ensures) (c .before .before .if1 .left) (c .if2 .taken))
 
 valuations-of-requires : tie.Need-valuations-of-requires
 valuations-of-requires c κs = valid-reading _ _ (c .before .before .before .before .read .ensures) (c .before .before .if1 .left)
@@ -34,7 +32,7 @@ returns-3 : tie.Need-returns-3
 returns-3 c =
     let read = c .before .before .before .before .before .before .before .read .ensures in
     let z = c .before .before .before .before .before .if1 .left in
-    answer-worth _ _ _ _ read _ _ z (valued-here _ _ _ _ (valid-reading _ _ read z .few) (c .before .before .before .if2 .left) (c .before .before .valuations-of .ensures)) (c .worth-of .ensures)
+    answer-told _ _ _ _ (answer-worth _ _ _ _ read _ _ z (valued-here _ _ _ _ (valid-reading _ _ read z .few) (c .before .before .before .if2 .left) (c .before .before .valuations-of .ensures)) (c .worth-of .ensures))
 
 pub worth-spec : {M : Type 1} → statement M
 worth-spec =
