@@ -1,14 +1,14 @@
 -- The words of a division or a cut stand for its bundles: they are worth the same and have the same size.
 use Prim.Native.Nat.{ℕ, _≤_, _<_}
 use mathlib.Core.Path.{_≡_, refl, sym, ap, _∙_, subst, fun-ext}
-use mathlib.Core.Bool.{Bool, true, false, _&&_, not, false≢true}
+use mathlib.Core.Bool.{true, false, false≢true}
 use mathlib.Core.List.{List}
 use native.Mathlib.Omega.{arith}
 use lib.Dec.{T, eqb, ltb, lt→ltb}
 use lib.ListN.{length, getD}
 use Rattle.matroid.specs.Taut.{both, and-right}
 use Rattle.matroid.specs.Decide.{isYes}
-use Rattle.matroid.specs.Set.{Set, complement, under, size}
+use Rattle.matroid.specs.Set.{Set, size}
 use Rattle.matroid.specs.Matroid.{Matroid, worth}
 use Rattle.matroid.specs.Division.{bundle}
 use Rattle.matroid.proofs.Sets.{size-le}
@@ -41,11 +41,6 @@ module _ (m : ℕ) (D : ℕ → ℕ) (words : List ℕ) (w : Bundles m D words) 
   pub size-word : m ≤ 64 → counted words t ≡ size m (bundle D t)
   unfolding counted
   size-word small = ap (size 64) (fun-ext (λ j. w .at t l j)) ∙ under-size 64 m (bundle D t) small
-
--- the count of the word of the instruments outside a set
-pub outside-size : (m set all s r : ℕ) → m ≤ 64 → ((j : ℕ) → bit all j ≡ under m j) → ((j : ℕ) → bit s j ≡ (bit all j && not (bit set j))) → r ≡ size 64 (bit s) → r ≡ size m (complement (bit set))
-outside-size m set all s r l eall es er =
-    er ∙ ap (size 64) (fun-ext (λ j. es j ∙ ap (λ (b : Bool). b && not (bit set j)) (eall j))) ∙ under-size 64 m (complement (bit set)) l
 
 -- worth is at most m
 pub worth-small : {m : ℕ} (M : Matroid m) (S : Set) → worth M S ≤ m

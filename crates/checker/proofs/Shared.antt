@@ -32,6 +32,10 @@ pub record Reached {m : ℕ} (M : Matroid m) (share : ℕ) (words : List ℕ) (p
 pub reached-none : {m : ℕ} (M : Matroid m) (share : ℕ) (words : List ℕ) → Reached M share words 0
 reached-none M share words = record { at = λ k l. absurd (omega arith) }
 
+-- every part is worth 0
+pub reached-zero : {m : ℕ} (M : Matroid m) (share : ℕ) (words : List ℕ) (p : ℕ) → share ≡ 0 → Reached M share words p
+reached-zero M share words p e = record { at = λ k l. omega arith }
+
 module _ {m : ℕ} (M : Matroid m) (share : ℕ) (words : List ℕ) (p : ℕ) (h : Reached M share words p) where
   pub reached-next : (v : ℕ) → v ≡ worth M (bit (getD words p 0)) → share ≤ v → Reached M share words (p + 1)
   reached-next v is-v l = record { at = below-more (λ k. share ≤ worth M (bit (getD words k 0))) p (h .at) (omega arith) }

@@ -2,9 +2,8 @@
 ghost use mathlib.Core.Path.{_≡_};
 ghost use Prim.Native.Nat.{ℕ, _≤_};
 ghost use lib.ListN.{length};
-ghost use Rattle.matroid.specs.Set.{complement, size};
+ghost use Rattle.matroid.specs.Set.{size};
 ghost use Rattle.matroid.specs.Division.{held};
-ghost use Rattle.sets.specs.Bits.{bit};
 ghost use Rattle.sets.specs.Bundles.{Bundles};
 ghost use Rattle.kinds.specs.Valuations.{matroids};
 ghost use Rattle.checker.specs.Rules.{dependentAt, boundOf};
@@ -37,20 +36,12 @@ pub fn given(bundles: [u64; 12], n: usize) -> usize
     count
 }
 
-// How many instruments below m are outside a set.
-pub fn outside(m: usize, set: u64) -> usize
-    requires { ⌜ m ≤ 64 ⌝ }
-    ensures { λ k. ⌜ k ≡ size m (complement (bit set)) ⌝ }
-{
-    sets::size(sets::minus(sets::all_below(m), set))
-}
-
 // The instruments outside a set, and what the set is worth to each team.
 pub fn bound(valuations: [Valuation; 12], m: usize, n: usize, set: u64) -> usize
     requires { ⌜ (m ≤ 64) × (n ≤ 12) × (length valuations ≡ 12) ⌝ }
     ensures { λ k. ⌜ k ≡ boundOf n (matroids m valuations) set ⌝ }
 {
-    let mut sum = outside(m, set);
+    let mut sum = sets::outside(m, set);
     for t in 0..n {
         let valuation = valuations[t];
         sum += kinds::worth_of(valuation, m, set);

@@ -10,11 +10,14 @@ ghost use Rattle.sheet.specs.Named.{named};
 ghost use Rattle.checker.specs.Rules.{partsHold, shareHolds, wrongShareAt, shortAt};
 use kinds::Valuation;
 
-// Whether each of n parts, an empty one included, is worth the share.
+// Whether each of n parts, an empty one included, is worth the share. None is looked at where the share is 0.
 fn parts_hold(valuation: Valuation, m: usize, n: usize, share: usize, parts: [u64; 12]) -> bool
     requires { ⌜ (m ≤ 64) × (n ≤ 12) ⌝ }
     ensures { λ r. ⌜ ((C : ℕ → ℕ) → Bundles m C parts → r ≡ partsHold (matroidOf m valuation) n share C) ⌝ }
 {
+    if share == 0 {
+        return true;
+    }
     for p in 0..n {
         if kinds::worth_of(valuation, m, parts[p]) < share {
             return false;
@@ -30,7 +33,7 @@ fn share_holds(valuation: Valuation, m: usize, n: usize, share: u8, set: u64, pa
 {
     let s = sets::wide(share);
     if parts_hold(valuation, m, n, s, sheet::words(parts, m)) {
-        let most = super::division::outside(m, set) + n * kinds::worth_of(valuation, m, set);
+        let most = sets::outside(m, set) + n * kinds::worth_of(valuation, m, set);
         return most < n * (s + 1);
     }
     false

@@ -1,3 +1,4 @@
 pub mod Called
+pub mod Rows
 pub mod Mapped
 pub mod Standing

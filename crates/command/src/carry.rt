@@ -1,21 +1,13 @@
 // What a command that breaks no rule changes.
 ghost use mathlib.Core.Path.{_≡_};
 ghost use Prim.Native.Nat.{_≤_};
-ghost use Rattle.command.specs.Carry.{opened, start, changedTeam, changedState};
+ghost use lib.ListN.{length};
+ghost use Rattle.command.specs.Carry.{start, changedTeam, changedState};
+ghost use Rattle.command.specs.Row.{rowTeam};
 use super::Command;
 use super::State;
-use team::Team;
-
-// A team that has just been opened, with one cap for each class.
-fn open(kind: u8, channels: u8, cap: u8) -> Team
-    ensures { λ r. ⌜ r ≡ opened kind channels cap ⌝ }
-{
-    let mut team = team::blank();
-    team.kind = kind;
-    team.channels = channels;
-    team.cap = [cap; 16];
-    team
-}
+use super::row;
+use sets::wide;
 
 // Nothing has been read yet.
 pub fn nothing() -> State
@@ -28,55 +20,54 @@ pub fn nothing() -> State
     }
 }
 
-// The open team with a class capped.
-fn with_cap(mut team: Team, class: u8, cap: u8) -> Team
-    ensures { λ r. ⌜ r ≡ changedTeam team (Command.Class class cap) ⌝ }
+// Caps a class of the open team.
+fn set_cap(row: &mut [u8], class: u8, cap: u8)
+    requires { ⌜ length (now row) ≡ 210 ⌝ }
+    ensures { λ _. ⌜ rowTeam (now (row .exit)) ≡ changedTeam (rowTeam (now (row .entry))) (Command.Class class cap) ⌝ }
 {
-    let at = class as usize;
-    if at < 16 {
-        team.cap[at] = cap;
+    if class < 16 {
+        row[row::CAP + wide(class)] = cap;
     }
-    team
 }
 
-// The open team with an instrument put in a class.
-fn with_class(mut team: Team, instrument: u8, class: u8) -> Team
-    ensures { λ r. ⌜ r ≡ changedTeam team (Command.Put instrument class) ⌝ }
+// Puts an instrument of the open team in a class.
+fn set_class(row: &mut [u8], instrument: u8, class: u8)
+    requires { ⌜ length (now row) ≡ 210 ⌝ }
+    ensures { λ _. ⌜ rowTeam (now (row .exit)) ≡ changedTeam (rowTeam (now (row .entry))) (Command.Put instrument class) ⌝ }
 {
-    let at = instrument as usize;
-    if at < 64 {
-        team.class[at] = class;
+    if instrument < 64 {
+        row[row::CLASS + wide(instrument)] = class;
     }
-    team
 }
 
-// The open team with an instrument's span.
-fn with_span(mut team: Team, instrument: u8, a: u8, b: u8) -> Team
-    ensures { λ r. ⌜ r ≡ changedTeam team (Command.Span instrument a b) ⌝ }
+// Gives an instrument of the open team its span.
+fn set_span(row: &mut [u8], instrument: u8, a: u8, b: u8)
+    requires { ⌜ length (now row) ≡ 210 ⌝ }
+    ensures { λ _. ⌜ rowTeam (now (row .exit)) ≡ changedTeam (rowTeam (now (row .entry))) (Command.Span instrument a b) ⌝ }
 {
-    let at = instrument as usize;
-    if at < 64 {
-        team.first[at] = a;
-        team.second[at] = b;
+    if instrument < 64 {
+        let i = wide(instrument);
+        row[row::FIRST + i] = a;
+        row[row::SECOND + i] = b;
     }
-    team
 }
 
-// The open team after a command.
-pub fn changed_team(team: Team, command: Command) -> Team
-    ensures { λ r. ⌜ r ≡ changedTeam team command ⌝ }
+// Changes the row of the team that is open after a command. A team that the command opens takes the place of what the row held.
+pub fn change(row: &mut [u8], command: Command)
+    requires { ⌜ length (now row) ≡ 210 ⌝ }
+    ensures { λ _. ⌜ rowTeam (now (row .exit)) ≡ changedTeam (rowTeam (now (row .entry))) command ⌝ }
 {
     match command {
-        Command::Missing => team,
-        Command::Unknown => team,
-        Command::Short => team,
-        Command::Start(_, _) => team,
-        Command::Caps(channels) => open(2, channels, 0),
-        Command::Loops(channels) => open(3, channels, 255),
-        Command::Class(class, cap) => with_cap(team, class, cap),
-        Command::Put(i, class) => with_class(team, i, class),
-        Command::Span(i, a, b) => with_span(team, i, a, b),
-        Command::End => team,
+        Command::Missing => {}
+        Command::Unknown => {}
+        Command::Short => {}
+        Command::Start(_, _) => {}
+        Command::Caps(channels) => row::open(row, 2, channels, 0),
+        Command::Loops(channels) => row::open(row, 3, channels, 255),
+        Command::Class(class, cap) => set_cap(row, class, cap),
+        Command::Put(i, class) => set_class(row, i, class),
+        Command::Span(i, a, b) => set_span(row, i, a, b),
+        Command::End => {}
     }
 }
 

@@ -1,6 +1,7 @@
 // What stands at an offset of a plan file.
 ghost use mathlib.Core.Path.{_≡_};
-ghost use lib.ListN.{getD};
+ghost use Prim.Native.Nat.{_+_, _≤_};
+ghost use lib.ListN.{length, getD};
 ghost use Rattle.command.specs.Command.{widthOf, commandOf, commandAt, bytesOf, foundAt};
 use super::Command;
 
@@ -11,6 +12,7 @@ pub fn byte_at(file: &[u8], at: usize) -> u8
     if at < file.len() { file[at] } else { 0 }
 }
 
+// How many bytes the command of each byte below 08 has, operands included.
 const WIDTHS: [usize; 8] = [0, 3, 2, 2, 3, 3, 4, 1];
 
 // How many bytes the command of a byte has, operands included, and 0 for a byte that is no command's.
@@ -20,17 +22,18 @@ fn width_of(byte: u8) -> usize
     if byte < 8 { WIDTHS[byte as usize] } else { 0 }
 }
 
-// The command of a byte with these operands.
-fn command_of(byte: u8, a: u8, b: u8, c: u8) -> Command
-    ensures { λ r. ⌜ r ≡ commandOf byte a b c ⌝ }
+// The command of a byte, with the operands that stand after an offset.
+fn command_of(file: &[u8], at: usize, byte: u8) -> Command
+    requires { ⌜ at + widthOf byte ≤ length (now file) ⌝ }
+    ensures { λ r. ⌜ r ≡ commandOf byte (getD (now (file .entry)) (at + 1) 0) (getD (now (file .entry)) (at + 2) 0) (getD (now (file .entry)) (at + 3) 0) ⌝ }
 {
     match byte {
-        1 => Command::Start(a, b),
-        2 => Command::Caps(a),
-        3 => Command::Loops(a),
-        4 => Command::Class(a, b),
-        5 => Command::Put(a, b),
-        6 => Command::Span(a, b, c),
+        1 => Command::Start(file[at + 1], file[at + 2]),
+        2 => Command::Caps(file[at + 1]),
+        3 => Command::Loops(file[at + 1]),
+        4 => Command::Class(file[at + 1], file[at + 2]),
+        5 => Command::Put(file[at + 1], file[at + 2]),
+        6 => Command::Span(file[at + 1], file[at + 2], file[at + 3]),
         _ => Command::End,
     }
 }
@@ -50,12 +53,7 @@ pub fn command_at(file: &[u8], at: usize) -> Command
     if file.len() - at < w {
         return Command::Short;
     }
-    command_of(
-        byte,
-        byte_at(file, at + 1),
-        byte_at(file, at + 2),
-        byte_at(file, at + 3),
-    )
+    command_of(file, at, byte)
 }
 
 // How many bytes a command has.

@@ -1,10 +1,13 @@
-// Which rule a command breaks first. 0: none.
+// Which rule a command breaks first, by the state and the open team's row. 0: none.
 ghost use mathlib.Core.Path.{_≡_};
+ghost use Prim.Native.Nat.{_+_, _≤_};
+ghost use lib.ListN.{length};
 ghost use Rattle.command.specs.Fault.{fault, startRules, teamRules, classRules, putRules, spanRules, endRules, isEnd, named};
+ghost use Rattle.command.specs.Row.{part, rowTeam};
 ghost use Rattle.command.specs.Rule.{firstBroken};
 use super::Command;
 use super::State;
-use team::Team;
+use super::row;
 
 // START: at the file's start, version 1, at most 64 instruments.
 fn start_fault(at: usize, version: u8, m: u8) -> usize
@@ -40,11 +43,12 @@ fn class_fault(s: State, kind: u8, class: u8) -> usize
 }
 
 // PUT: in a CAPS team, an instrument below m, a class below 16, named once.
-fn put_fault(s: State, team: Team, instrument: u8, class: u8) -> usize
-    ensures { λ r. ⌜ r ≡ firstBroken 0 (putRules s team instrument class) ⌝ }
+fn put_fault(row: &[u8], s: State, instrument: u8, class: u8) -> usize
+    requires { ⌜ length (now row) ≡ 210 ⌝ }
+    ensures { λ r. ⌜ r ≡ firstBroken 0 (putRules s (rowTeam (now (row .entry))) instrument class) ⌝ }
 {
     let i = instrument as usize;
-    if team.kind != 2 {
+    if row[0] != 2 {
         return 4;
     }
     if i >= s.m {
@@ -53,16 +57,16 @@ fn put_fault(s: State, team: Team, instrument: u8, class: u8) -> usize
     if class >= 16 {
         return 5;
     }
-    let table = team.class;
-    if named(table, i) { 6 } else { 0 }
+    if named(row, row::CLASS, i) { 6 } else { 0 }
 }
 
 // SPAN: in a LOOPS team, an instrument below m, two different joints below 64, named once.
-fn span_fault(s: State, team: Team, instrument: u8, a: u8, b: u8) -> usize
-    ensures { λ r. ⌜ r ≡ firstBroken 0 (spanRules s team instrument a b) ⌝ }
+fn span_fault(row: &[u8], s: State, instrument: u8, a: u8, b: u8) -> usize
+    requires { ⌜ length (now row) ≡ 210 ⌝ }
+    ensures { λ r. ⌜ r ≡ firstBroken 0 (spanRules s (rowTeam (now (row .entry))) instrument a b) ⌝ }
 {
     let i = instrument as usize;
-    if team.kind != 3 {
+    if row[0] != 3 {
         return 4;
     }
     if i >= s.m {
@@ -77,8 +81,7 @@ fn span_fault(s: State, team: Team, instrument: u8, a: u8, b: u8) -> usize
     if a == b {
         return 8;
     }
-    let table = team.first;
-    if named(table, i) { 6 } else { 0 }
+    if named(row, row::FIRST, i) { 6 } else { 0 }
 }
 
 // END: after a team.
@@ -88,9 +91,10 @@ fn end_fault(s: State) -> usize
     if s.n == 0 { 4 } else { 0 }
 }
 
-// The number of the first rule that a command breaks.
-pub fn fault_of(at: usize, s: State, team: Team, command: Command) -> usize
-    ensures { λ r. ⌜ r ≡ fault at s team command ⌝ }
+// The number of the first rule that a command breaks, given the row of the open team.
+pub fn fault_of(row: &[u8], at: usize, s: State, command: Command) -> usize
+    requires { ⌜ length (now row) ≡ 210 ⌝ }
+    ensures { λ r. ⌜ r ≡ fault at s (rowTeam (now (row .entry))) command ⌝ }
 {
     match command {
         Command::Missing => 2,
@@ -99,9 +103,9 @@ pub fn fault_of(at: usize, s: State, team: Team, command: Command) -> usize
         Command::Start(version, m) => start_fault(at, version, m),
         Command::Caps(_) => team_fault(s),
         Command::Loops(_) => team_fault(s),
-        Command::Class(class, _) => class_fault(s, team.kind, class),
-        Command::Put(i, class) => put_fault(s, team, i, class),
-        Command::Span(i, a, b) => span_fault(s, team, i, a, b),
+        Command::Class(class, _) => class_fault(s, row[0], class),
+        Command::Put(i, class) => put_fault(row, s, i, class),
+        Command::Span(i, a, b) => span_fault(row, s, i, a, b),
         Command::End => end_fault(s),
     }
 }
@@ -124,9 +128,10 @@ pub fn is_end(command: Command) -> bool
     }
 }
 
-// Whether a team's table names an instrument.
-fn named(table: [u8; 64], i: usize) -> bool
-    ensures { λ r. ⌜ r ≡ named table i ⌝ }
+// Whether the table of 64 bytes at an offset of a row names an instrument.
+fn named(row: &[u8], at: usize, i: usize) -> bool
+    requires { ⌜ at + 64 ≤ length (now row) ⌝ }
+    ensures { λ r. ⌜ r ≡ named (part (now (row .entry)) at 64) i ⌝ }
 {
-    if i < 64 { table[i] != 255 } else { false }
+    if i < 64 { row[at + i] != 255 } else { false }
 }

@@ -3,6 +3,7 @@ pub mod carry;
 pub mod decode;
 pub mod judge;
 pub mod reader;
+pub mod row;
 
 // What stands at an offset of the file.
 pub enum Command {

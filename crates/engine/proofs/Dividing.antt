@@ -49,22 +49,21 @@ targets-more shares t r next l a is = rw is (record {
 })
 
 -- shares can be targets, since every set bounds them
-pub divide-levellable : (s : Agents) (h : Holding) (k : ℕ) (shares : List Shared) (targets : List ℕ) → ValidAgents s → Full s h k → AllShares s (s .n) shares → Targets shares 12 targets → Levellable s h targets
+pub divide-levellable : (s : Agents) (h : Holding) (k : ℕ) (shares : List Shared) (targets : List ℕ) → ValidAgents s → Full s h k → AllShares s (s .n) shares → Targets shares (s .n) targets → Levellable s h targets
 divide-levellable s h k shares targets valid f a t = record {
   bound = k;
   full = f;
   allowed = λ i l R.
-      let few = valid .few in
-      let e = t .at i (omega arith) ∙ a .at i l .is in
+      let e = t .at i l ∙ a .at i l .is in
       let times = ap (λ (x : ℕ). s .n * x) e in
       let bound = share-allowed (agentMatroid s i) (s .n) (valid .some) R in
       omega arith;
 }
 
-pub divides : (s : Agents) (start h : Holding) (k : ℕ) (shares : List Shared) (targets : List ℕ) → ValidAgents s → Full s start k → AllShares s (s .n) shares → Targets shares 12 targets → Levelled s start targets h
+pub divides : (s : Agents) (start h : Holding) (k : ℕ) (shares : List Shared) (targets : List ℕ) → ValidAgents s → Full s start k → AllShares s (s .n) shares → Targets shares (s .n) targets → Levelled s start targets h
     → Divided s (record { holding = h; bound = k; shares = shares })
 divides s start h k shares targets valid f a t l = record {
   full = record { held = l .held; low = f .low; full = l .same ∙ f .full };
   shares = a;
-  reached = λ i b. let few = valid .few in let e = t .at i (omega arith) in let r = l .reached i b in omega arith;
+  reached = λ i b. let e = t .at i b in let r = l .reached i b in omega arith;
 }

@@ -3,4 +3,5 @@ pub mod Greedily
 pub mod Filling
 pub mod Leveling
 pub mod Sharing
+pub mod Dealing
 pub mod Dividing

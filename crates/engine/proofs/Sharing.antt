@@ -1,21 +1,20 @@
--- Shares: n agents of one valuation, filled and levelled.
-use Prim.Native.Nat.{ℕ, zero, _+_, _*_, _/_, _≤_, _<_}
+-- Shares: what shows one, and how n agents of one valuation, filled and levelled, come to it.
+use Prim.Native.Nat.{ℕ, _+_, _*_, _/_, _≤_, _<_}
 use mathlib.Core.Path.{_≡_, refl, sym, ap, ap₂, _∙_, subst, fun-ext}
-use mathlib.Core.Bool.{Bool, true, false, _&&_, not, and-true, and-false}
+use mathlib.Core.Bool.{Bool, _&&_, not, and-true, and-false, Bool·not-not}
 use mathlib.Core.List.{List}
 use native.Mathlib.Omega.{arith}
 use native.Mathlib.Nat.{mul-le-mul-left, div-add-mod', mod-lt}
 use native.Mathlib.Decide.{decLt, decLe, ℕ-discrete}
-use lib.Dec.{eqb→eq, ltb}
-use lib.ListN.{length, getD, set, replicate, length-set, getD-replicate, length-replicate, List·getD-eq-default}
+use lib.Dec.{T, eqb→eq, ltb}
+use lib.ListN.{length, getD, set, replicate, length-set, getD-replicate, List·getD-eq-default}
 use lib.Seq.{getD-set-same, getD-set-other}
 use borrow.Author.Tests.{lt-ltb, le-ltb}
-use Rattle.matroid.specs.Set.{Set, _∩_, _∖_, complement, under, size, Within}
-use Rattle.matroid.specs.SetLaws.{eq→eqb, size-same, within-refl, inter-most, inter-left}
+use Rattle.matroid.specs.Set.{Set, _∖_, complement, under, size, Within}
+use Rattle.matroid.specs.SetLaws.{eq→eqb}
 use Rattle.matroid.specs.Sum.{sum}
 use Rattle.matroid.specs.Matroid.{Matroid, worth}
-use Rattle.matroid.specs.Division.{bundle, held}
-use Rattle.matroid.specs.DivisionLaws.{sum-bundles}
+use Rattle.matroid.specs.Division.{bundle}
 use Rattle.matroid.specs.Share.{share}
 use Rattle.matroid.proofs.Sets.{size-twice}
 use Rattle.matroid.proofs.Sums.{sum-same, sum-const}
@@ -31,12 +30,12 @@ use Rattle.holding.specs.Give.{holderOf, isInstrument, isTeam, inPool}
 use Rattle.holding.specs.Words.{Pool}
 use Rattle.kinds.specs.Valuations.{matroidOf, matroids, blankValuation}
 use Rattle.exchange.specs.declared.Agents.{Agents}
-use Rattle.engine.specs.declared.share.Shared.{Shared}
 use Rattle.exchange.specs.Agents.{agentMatroid, holder, Held}
-use Rattle.engine.specs.Fill.{ValidAgents, given, Full}
+use Rattle.engine.specs.Fill.{given, Full}
 use Rattle.engine.specs.Level.{Levellable, Levelled}
 use Rattle.engine.specs.Share.{Counted, Parted, ShareOf}
 use Rattle.exchange.proofs.Words.{team-agent}
+use Rattle.engine.proofs.Sizes.{given-held}
 
 -- ---- counting what is given
 
@@ -53,23 +52,11 @@ counted h all pool rest r small is-all is-pool is-rest e = record {
 -- what is not in the pool is with an agent
 pub held-agent : (s : Agents) (h : Holding) → Held s h → (g : ℕ) → not (inPool h g) ≡ ltb (holder (h .owner) g) (s .n)
 unfolding inPool holderOf
-held-agent s h hd g = twice (isTeam h (holder (h .owner) g)) ∙ team-agent s h hd (holder (h .owner) g)
-  where
-    twice : (b : Bool) → not (not b) ≡ b
-    twice true = refl
-    twice false = refl
+held-agent s h hd g = Bool·not-not (isTeam h (holder (h .owner) g)) ∙ team-agent s h hd (holder (h .owner) g)
 
 -- it is what the agents hold
 pub given-count : (s : Agents) (h : Holding) (r : ℕ) → Held s h → Counted h r → r ≡ given s (h .owner)
-unfolding given
-given-count s h r hd c =
-    let sums = sum-bundles (s .m) (s .n) (holder (h .owner)) (λ g. true) in
-    let all = size-same (s .m) {A = λ g. ltb (holder (h .owner) g) (s .n)} {B = held (s .n) (holder (h .owner)) ∩ (λ g. true)} (inter-most within-refl (record { at = λ k l t. tt })) (inter-left (held (s .n) (holder (h .owner))) (λ g. true)) in
-    let each = sum-same (s .n) (λ t. size (s .m) (bundle (holder (h .owner)) t ∩ (λ g. true))) (λ t. size (s .m) (bundle (holder (h .owner)) t))
-    (λ t _. size-same (s .m) {A = bundle (holder (h .owner)) t ∩ (λ g. true)} {B = bundle (holder (h .owner)) t} (inter-left (bundle (holder (h .owner)) t) (λ g. true)) (inter-most within-refl (record { at = λ k l t. tt }))) in
-    let count = c .is in
-    let same : size (h .m) (λ g. not (inPool h g)) ≡ size (s .m) (λ g. ltb (holder (h .owner) g) (s .n)) = ap₂ size (hd .m) (fun-ext (held-agent s h hd)) in
-    omega arith
+given-count s h r hd c = c .is ∙ ap₂ size (hd .m) (fun-ext (held-agent s h hd)) ∙ sym (given-held s (h .owner))
 
 -- ---- the cut
 
@@ -116,6 +103,25 @@ module _ (owner : List ℕ) (n k : ℕ) (r next : List ℕ) (h : Parting owner n
     rest = λ g c. h .rest g (omega arith);
   })
 
+-- ---- what shows a share
+
+module _ (m n : ℕ) (v : Valuation) (some : 1 ≤ n) (s k : ℕ) (part : List ℕ) (low : (g : ℕ) → T (bit k g) → g < m) (below : (g : ℕ) → g < m → getD part g 0 < n)
+    (fair : (t : ℕ) → t < n → s ≤ worth (matroidOf m v) (bundle (λ g. getD part g 0) t)) (tight : size m (complement (bit k)) + n * worth (matroidOf m v) (bit k) < n * (s + 1)) where
+  -- a number that each part of a cut is worth, and that a set forbids to exceed, is the share
+  is-share : s ≡ share (matroidOf m v) n
+  is-share = go (decLe (s + 1) (share (matroidOf m v) n))
+    where
+      go : Dec (s + 1 ≤ share (matroidOf m v) n) → s ≡ share (matroidOf m v) n
+      go (yes l) =
+          let bound = share-bound (matroidOf m v) n some (bit k) in
+          let times = mul-le-mul-left n l in
+          absurd (omega arith)
+      go (no d) = let most = share-most (matroidOf m v) n some s (record { part = λ g. getD part g 0; below = below; fair = fair }) in omega arith
+
+  -- so the cut and the set are its certificates
+  pub share-shown : ShareOf m n v (record { share = s; bound = k; part = part })
+  share-shown = record { is = is-share; low = low; below = below; fair = fair; tight = tight }
+
 -- ---- n agents of one valuation
 
 -- every agent's matroid is the valuation's
@@ -128,9 +134,6 @@ module _ (m n : ℕ) (v : Valuation) (small : m ≤ 64) (some : 1 ≤ n) (few : 
 
   abbrev M : Matroid m
   M = matroidOf m v
-
-  pub valid : ValidAgents agentsOf
-  valid = record { small = small; some = some; few = few; valuations-long = length-replicate 12 v }
 
   -- sums over the agents
   sum-worth : (K : Set) → sum n (λ t. worth (agentMatroid agentsOf t) K) ≡ n * worth M K
@@ -160,9 +163,9 @@ module _ (m n : ℕ) (v : Valuation) (small : m ≤ 64) (some : 1 ≤ n) (few : 
         omega arith;
   }
 
-  -- so it is the share
+  -- the agents are levelled to it, and their bundles cut into parts
   module _ (f h : Holding) (k s : ℕ) (targets part : List ℕ) (full : Full agentsOf f k) (e : s ≡ given agentsOf (f .owner) / n) (is : targets ≡ replicate 12 s)
-      (levelled : Levelled agentsOf f targets h) (parted : Parted (h .owner) n 64 part) where
+      (levelled : Levelled agentsOf f targets h) (parted : Parted (h .owner) n m part) where
     abbrev cutOf : ℕ → ℕ
     cutOf g = getD part g 0
 
@@ -171,8 +174,8 @@ module _ (m n : ℕ) (v : Valuation) (small : m ≤ 64) (some : 1 ≤ n) (few : 
 
     below : (g : ℕ) → g < m → cutOf g < n
     below g l = elim (decLt (getD (h .owner) g 0) n) [
-      | yes b ↦ let same = parted .agent g (omega arith) b in omega arith
-      | no d ↦ let zero = parted .pool g (omega arith) (omega arith) in omega arith
+      | yes b ↦ let same = parted .agent g l b in omega arith
+      | no d ↦ let zero = parted .pool g l (omega arith) in omega arith
     ]
 
     -- an agent's bundle lies in its part
@@ -181,7 +184,7 @@ module _ (m n : ℕ) (v : Valuation) (small : m ≤ 64) (some : 1 ≤ n) (few : 
       at = λ g b x.
           let own = owner-at g b in
           let o = eqb→eq (holder (h .owner) g) t x in
-          eq→eqb (cutOf g) t (parted .agent g (omega arith) (omega arith) ∙ own ∙ o);
+          eq→eqb (cutOf g) t (parted .agent g b (omega arith) ∙ own ∙ o);
     }
 
     fair : (t : ℕ) → t < n → s ≤ worth M (bundle cutOf t)
@@ -202,25 +205,6 @@ module _ (m n : ℕ) (v : Valuation) (small : m ≤ 64) (some : 1 ≤ n) (few : 
         let times = ap (λ (x : ℕ). n * x) e in
         omega arith
 
-    is-share : s ≡ share M n
-    is-share = go (decLe (s + 1) (share M n))
-      where
-        most : s ≤ share M n
-        most = share-most M n some s (record { part = cutOf; below = below; fair = fair })
-
-        go : Dec (s + 1 ≤ share M n) → s ≡ share M n
-        go (yes l) =
-            let bound = share-bound M n some (bit k) in
-            let less = tight in
-            let times = mul-le-mul-left n l in
-            absurd (omega arith)
-        go (no d) = let m′ = most in omega arith
-
-    pub shares : (r : Shared) → r .share ≡ s → r .bound ≡ k → r .part ≡ part → ShareOf m n v r
-    shares r es ek ep = record {
-      is = es ∙ is-share;
-      low = λ g t. full .low g (rw ek at t);
-      below = λ g l. rw ep (below g l);
-      fair = λ t l. rw (es, ep) (fair t l);
-      tight = rw (es, ek) tight;
-    }
+    -- so the quotient is the share
+    pub shares : ShareOf m n v (record { share = s; bound = k; part = part })
+    shares = share-shown m n v some s k part (full .low) below fair tight

@@ -1,17 +1,18 @@
--- How a chain changes the sizes of the bundles.
-use Prim.Native.Nat.{ℕ, zero, suc, _+_, _-_, _≤_, _<_}
-use mathlib.Core.Path.{_≡_, refl, sym, ap, _∙_}
+-- How many instruments the agents hold, and how a chain changes the sizes of the bundles.
+use Prim.Native.Nat.{ℕ, zero, suc, _+_, _≤_, _<_}
+use mathlib.Core.Path.{_≡_, refl, sym, ap, _∙_, fun-ext}
+use mathlib.Core.Bool.{true, and-true}
 use mathlib.Core.List.{List}
 use native.Mathlib.Omega.{arith}
 use native.Mathlib.Decide.{ℕ-discrete}
 use lib.Dec.{eqb}
-use Rattle.matroid.specs.Set.{complement, one, size, none}
-use Rattle.matroid.specs.SetLaws.{one-eq, one-ne, size-none}
+use Rattle.matroid.specs.Set.{Set, _∩_, one, size}
+use Rattle.matroid.specs.SetLaws.{one-eq, one-ne}
 use Rattle.matroid.specs.Sum.{sum}
-use Rattle.matroid.specs.Division.{bundle}
+use Rattle.matroid.specs.Division.{bundle, held}
+use Rattle.matroid.specs.DivisionLaws.{sum-bundles}
 use Rattle.matroid.proofs.Sets.{size-le}
 use Rattle.matroid.proofs.Sums.{sum-add, sum-same}
-use Rattle.matroid.proofs.Duality.{sum-bundles-le, sum-bundles-split}
 use Rattle.matroid.proofs.Carrying.{carry-size}
 use Rattle.holding.specs.declared.Holding.{Holding}
 use Rattle.exchange.specs.declared.Agents.{Agents}
@@ -32,16 +33,18 @@ sum-in (suc n) i l = go (λ (b : i < n). sum-in n i b) (ℕ-discrete i n)
     go rest (yes e) = let below = sum-out n i (omega arith) in let here = one-eq i n e in omega arith
     go rest (no d) = let below = rest (omega arith) in let here = one-ne i n d in omega arith
 
+-- what the agents hold, counted by the instruments
+pub given-held : (s : Agents) (owner : List ℕ) → given s owner ≡ size (s .m) (held (s .n) (holder owner))
+unfolding given
+given-held s owner =
+    sym (ap (sum (s .n)) (fun-ext (λ t. all (bundle (holder owner) t)))) ∙ sum-bundles (s .m) (s .n) (holder owner) (λ g. true) ∙ all (held (s .n) (holder owner))
+  where
+    all : (A : Set) → size (s .m) (A ∩ (λ g. true)) ≡ size (s .m) A
+    all A = ap (size (s .m)) (fun-ext (λ g. and-true (A g)))
+
 -- the agents hold at most all instruments
 pub given-le : (s : Agents) (owner : List ℕ) → given s owner ≤ s .m
-unfolding given
-given-le s owner =
-    let split = sum-bundles-split (s .m) (s .n) (holder owner) none in
-    let inside = sum-bundles-le (s .m) (s .n) (holder owner) none in
-    let outside = sum-bundles-le (s .m) (s .n) (holder owner) (complement none) in
-    let nothing = size-none (s .m) in
-    let all = size-le (s .m) (complement none) in
-    omega arith
+given-le s owner = rw (given-held s owner) (size-le (s .m) (held (s .n) (holder owner)))
 
 module _ (s : Agents) (h after : Holding) (sources end : ℕ) (a : Advanced s h sources end after) where
   abbrev D : ℕ → ℕ

@@ -24,6 +24,10 @@ pub record ValidAgents (s : Agents) : Type 0 where
 unfoldable pub given : Agents → List ℕ → ℕ
 given s owner = sum (s .n) (λ t. size (s .m) (bundle (holder owner) t))
 
+-- a set is worth nothing to every agent
+pub record Worthless (s : Agents) (set : ℕ) : Type 0 where
+  pub at : (t : ℕ) → t < s .n → worth (agentMatroid s t) (bit set) ≡ 0
+
 -- Every bundle is independent, and the agents hold as many as the set K allows: (instruments outside K) + sum of v(K). So no division has a
 -- larger total.
 pub record Full (s : Agents) (h : Holding) (k : ℕ) : Type 0 where

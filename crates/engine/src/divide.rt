@@ -1,4 +1,5 @@
 // Divide: a division of greatest total in which every agent has at least its share.
+ghost use Prim.Native.Nat.{_≤_};
 ghost use Rattle.engine.specs.Fill.{ValidAgents};
 ghost use Rattle.engine.specs.Divide.{AllShares, Targets, Divided};
 use super::fill::fill;
@@ -37,28 +38,30 @@ fn all_shares(s: Agents) -> [Shared; 12]
     shares
 }
 
-// The shares as a table of targets.
-fn targets_of(shares: [Shared; 12]) -> [u8; 12]
-    ensures { λ r. ⌜ Targets shares 12 r ⌝ }
+// The shares of n agents as a table of targets.
+fn targets_of(shares: [Shared; 12], n: usize) -> [u8; 12]
+    requires { ⌜ n ≤ 12 ⌝ }
+    ensures { λ r. ⌜ Targets shares n r ⌝ }
 {
     let mut targets = [0u8; 12];
-    for t in 0..12usize {
+    for t in 0..n {
         let one = shares[t];
         targets[t] = one.share;
     }
     targets
 }
 
-// The division.
+// The division. Every agent is offered its share first, so that few are short when the total is greatest.
 pub fn divide(s: Agents) -> Division
     requires { ⌜ ValidAgents s ⌝ }
     ensures { λ r. ⌜ Divided s r ⌝ }
 {
-    let f = fill(s);
+    let shares = all_shares(s);
+    let targets = targets_of(shares, s.n);
+    let f = fill(s, targets);
     let start = f.holding;
     let bound = f.bound;
-    let shares = all_shares(s);
-    let holding = level(s, start, targets_of(shares));
+    let holding = level(s, start, targets);
     Division {
         holding,
         bound,

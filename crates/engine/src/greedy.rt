@@ -1,58 +1,66 @@
 // A start for fill: the agents in turn are offered what is in the pool.
 ghost use Rattle.exchange.specs.Agents.{Held};
 ghost use Rattle.engine.specs.Fill.{ValidAgents};
-ghost use Rattle.engine.specs.Greedy.{Offered, Handed};
 use exchange::Agents;
 use holding::Holding;
 
-// The holding in which each of these instruments of the pool is given to an agent.
-fn handed(start: Holding, t: usize, fresh: u64) -> Holding
-    requires { ⌜ Offered start t fresh ⌝ }
-    ensures { λ r. ⌜ Handed start t fresh 64 r ⌝ }
-{
-    let mut h = start;
-    let first = sets::lowest(fresh);
-    for g in first..64usize {
-        if sets::member(fresh, g) {
-            h = h.give(g, t);
-        }
-    }
-    h
+// A holding, and how many instruments each agent may take in the next round.
+struct Start {
+    holding: Holding,
+    quotas: [u8; 12],
 }
 
-// The holding after each agent in turn was offered the pool, to take so many or fewer: every bundle stays independent.
-fn round(s: Agents, start: Holding, most: usize) -> Holding
-    requires { ⌜ Held s start ⌝ }
-    ensures { λ r. ⌜ Held s r ⌝ }
+// Each agent in turn is offered the pool, to take its quota or fewer: every bundle stays independent. Who took as many may go on up to `most` in
+// the next round; who took fewer can take nothing more.
+fn round(s: Agents, start: Start, most: u8) -> Start
+    requires { ⌜ Held s (start .holding) ⌝ }
+    ensures { λ r. ⌜ Held s (r .holding) ⌝ }
 {
     let m = s.m;
     let n = s.n;
     let valuations = s.valuations;
-    let words = start.bundles();
-    let mut h = start;
-    let mut pool = start.pool();
+    let quotas = start.quotas;
+    let h = start.holding;
+    let mut pool = h.pool();
+    if sets::lowest(pool) >= 64 {
+        return start;
+    }
+    let words = h.bundles();
+    let mut owner = h.owner;
+    let mut next = [0u8; 12];
     for t in 0..n {
         let v = valuations[t];
         let bundle = words[t];
-        let larger = kinds::grown(v, m, bundle, pool, most);
+        let quota = quotas[t];
+        let larger = kinds::grown(v, m, bundle, pool, sets::wide(quota));
         let fresh = sets::minus(larger, bundle);
-        h = handed(h, t, fresh);
+        sets::assign(&mut owner, fresh, t as u8);
         pool = sets::minus(pool, fresh);
+        if quota < most {
+            if sets::size(fresh) >= sets::wide(quota) {
+                next[t] = most - quota;
+            }
+        }
     }
-    h
+    let holding = Holding { m, n, owner };
+    Start {
+        holding,
+        quotas: next,
+    }
 }
 
-// A holding of the agents in which every bundle is independent. It is a start, made in two rounds: how much they hold is no part of the
-// promise.
-pub fn greedy(s: Agents) -> Holding
+// A holding of the agents in which every bundle is independent: each takes its quota, then up to an even part of all instruments, then what it
+// can. It is a start: how much they hold is no part of the promise.
+pub fn greedy(s: Agents, quotas: [u8; 12]) -> Holding
     requires { ⌜ ValidAgents s ⌝ }
     ensures { λ r. ⌜ Held s r ⌝ }
 {
     let m = s.m;
     let n = s.n;
-    let even = round(s, Holding::empty(m, n), m / n + 1);
-    if sets::lowest(even.pool()) >= 64 {
-        return even;
-    }
-    round(s, even, m)
+    let holding = Holding::empty(m, n);
+    let even = (m / n + 1) as u8;
+    let first = round(s, Start { holding, quotas }, even);
+    let second = round(s, first, 64);
+    let third = round(s, second, 0);
+    third.holding
 }

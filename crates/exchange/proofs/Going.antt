@@ -1,8 +1,8 @@
 -- The loops of `search`.
-use Prim.Native.Nat.{ℕ, suc, _+_, _-_, _≤_, _<_}
+use Prim.Native.Nat.{ℕ, suc, _+_, _≤_, _<_}
 use mathlib.Core.Path.{_≡_, refl, sym, ap, _∙_, subst, subst⁻¹}
 use mathlib.Core.Bool.{Bool, true, false, _&&_, _||_, not, true≢false, false≢true}
-use mathlib.Core.Logic.{_⊎_, inl, inr, _≢_, _↔_}
+use mathlib.Core.Logic.{_⊎_, inl, inr, _↔_}
 use mathlib.Core.List.{List}
 use native.Mathlib.Omega.{arith}
 use native.Mathlib.Decide.{ℕ-discrete}
@@ -177,7 +177,7 @@ module _ (s : Agents) (owner bundles : List ℕ) (ready : Ready s owner bundles)
       holds = let long = ready .owner-long in sym (is-t ∙ getD-any owner g 0 255 (omega arith))
 
       same : matroidOf (s .m) v ≡ agentMatroid s t
-      same = agent-is s owner bundles ready t v d l (ready .valuations-long) e
+      same = agent-is s t v d l (ready .few) (ready .valuations-long) e
 
       at : (k : ℕ) → T (bit fresh k) ↔ ((k < s .m) × T (not (bit (trace .seen) k)) × Swaps (agentMatroid s t) (bit (getD bundles t 0)) g k)
       at k = subst (λ (X : Matroid (s .m)). X .Indep (bit (getD bundles t 0)) → T (bit fresh k) ↔ ((k < s .m) × T (not (bit (trace .seen) k)) × Swaps X (bit (getD bundles t 0)) g k)) same (λ i. ex .at i k) (word-indep s owner bundles ready t l)

@@ -1,4 +1,3 @@
-pub mod Assign
 pub mod Words
 pub mod Going
 pub mod Following

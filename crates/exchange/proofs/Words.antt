@@ -19,6 +19,7 @@ use Rattle.matroid.proofs.Sets.{with-mono, swap-mono}
 use Rattle.matroid.proofs.Waves.{rooted-take}
 use Rattle.sets.specs.Bits.{bit}
 use Rattle.sets.specs.Lowest.{Lowest}
+use Rattle.sets.specs.Assigned.{Assigned}
 use Rattle.sets.proofs.Below.{none-there}
 use Rattle.sets.specs.Joining.{MayJoin}
 use Rattle.holding.specs.declared.Holding.{Holding}
@@ -29,7 +30,7 @@ use Rattle.sets.proofs.Lists.{getD-any}
 use Rattle.kinds.specs.Valuations.{matroidOf, blankValuation}
 use Rattle.exchange.specs.declared.Agents.{Agents}
 use Rattle.exchange.specs.Agents.{agentMatroid, holder, Ready, Held}
-use Rattle.exchange.specs.Search.{Assigned, Exchanges}
+use Rattle.exchange.specs.Search.{Exchanges}
 
 -- sets that agree below m are alike to a matroid
 module _ {m : ℕ} (M : Matroid m) (A B : Set) (same : (k : ℕ) → k < m → A k ≡ B k) where
@@ -80,18 +81,16 @@ exchanges-none m v set g seen all left low small is-all is-left lowest none = re
   );
 }
 
+-- the matroid of the valuation that the code reads is the agent's
+pub agent-is : (s : Agents) (t : ℕ) (v d : Valuation) → t < s .n → s .n ≤ 12 → length (s .valuations) ≡ 12 → v ≡ getD (s .valuations) t d → matroidOf (s .m) v ≡ agentMatroid s t
+agent-is s t v d l few long e = ap (matroidOf (s .m)) (e ∙ getD-any (s .valuations) t d blankValuation (omega arith))
+
 -- ---- the words of the bundles
 
 module _ (s : Agents) (owner bundles : List ℕ) (ready : Ready s owner bundles) where
   -- below m, word t is the bundle of t
   pub word-bundle : (t : ℕ) → t < s .n → (k : ℕ) → k < s .m → bit (getD bundles t 0) k ≡ bundle (holder owner) t k
   word-bundle t l k b = let few = ready .few in ready .words .at t (omega arith) k ∙ ap (λ (x : Bool). x && eqb (holder owner k) t) (lt-ltb k (s .m) b)
-
-  -- the agent's own matroid
-  pub agent-is : (t : ℕ) (v : Valuation) (d : Valuation) → t < s .n → length (s .valuations) ≡ 12 → v ≡ getD (s .valuations) t d → matroidOf (s .m) v ≡ agentMatroid s t
-  agent-is t v d l long e =
-      let few = ready .few in
-      ap (matroidOf (s .m)) (e ∙ getD-any (s .valuations) t d blankValuation (omega arith))
 
   -- its word is independent
   pub word-indep : (t : ℕ) → t < s .n → agentMatroid s t .Indep (bit (getD bundles t 0))
@@ -103,18 +102,18 @@ module _ (s : Agents) (owner bundles : List ℕ) (ready : Ready s owner bundles)
   pub roots-take : (sources t seen free fresh seen′ : ℕ) (to to′ : List ℕ) (v d : Valuation) → t < s .n → length (s .valuations) ≡ 12 → v ≡ getD (s .valuations) t d
       → Rooted (s .n) (agentMatroid s) (holder owner) (bit sources) t (bit seen) (λ x. getD to x 0) → bit sources t ≡ true
       → (matroidOf (s .m) v .Indep (bit (getD bundles t 0)) → MayJoin (matroidOf (s .m) v) (bit (getD bundles t 0)) free)
-      → ((k : ℕ) → bit fresh k ≡ (bit free k && not (bit seen k))) → Assigned to fresh t 64 to′ → ((k : ℕ) → bit seen′ k ≡ (bit seen k || bit free k))
+      → ((k : ℕ) → bit fresh k ≡ (bit free k && not (bit seen k))) → Assigned to fresh t to′ → ((k : ℕ) → bit seen′ k ≡ (bit seen k || bit free k))
       → Rooted (s .n) (agentMatroid s) (holder owner) (bit sources) (t + 1) (bit seen′) (λ x. getD to′ x 0)
   roots-take sources t seen free fresh seen′ to to′ v d l long e r src gains is-fresh assigned is-seen =
       let M = agentMatroid s t in
-      let same = agent-is t v d l long e in
+      let same = agent-is s t v d l (ready .few) long e in
       let g = subst (λ (X : Matroid (s .m)). X .Indep (bit (getD bundles t 0)) → MayJoin X (bit (getD bundles t 0)) free) same gains (word-indep t l) in
       rooted-take (s .n) (agentMatroid s) (holder owner) (bit sources) t (bit seen) (λ x. getD to x 0) r (bit free) (bit seen′) (λ x. getD to′ x 0) l (subst⁻¹ T src tt)
       (λ x f. let (b, fits) = g .at x .0 f in (b, fits-alike M (bit (getD bundles t 0)) (bundle (holder owner) t) (word-bundle t l) x b .0 fits))
       (λ x b c. g .at x .1 (b, fits-alike M (bit (getD bundles t 0)) (bundle (holder owner) t) (word-bundle t l) x b .1 c))
       is-seen
-      (λ x seen-x. assigned .old x (subst⁻¹ (λ (b : Bool). T (not b)) (is-fresh x) (follows₂ (λ f a. a) (λ f a. not (f && not a)) tt (bit free x) (bit seen x) seen-x)))
-      (λ x f new. assigned .new x (let b = g .at x .0 f .0 in let small = ready .small in omega arith) (subst⁻¹ T (is-fresh x) (both (bit free x) _ f new)))
+      (λ x seen-x. assigned .old x 0 (subst⁻¹ (λ (b : Bool). T (not b)) (is-fresh x) (follows₂ (λ f a. a) (λ f a. not (f && not a)) tt (bit free x) (bit seen x) seen-x)))
+      (λ x f new. assigned .new x 0 (let b = g .at x .0 f .0 in let small = ready .small in omega arith) (subst⁻¹ T (is-fresh x) (both (bit free x) _ f new)))
 
 -- ---- the holding's own tests
 

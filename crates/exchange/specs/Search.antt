@@ -18,11 +18,6 @@ use Rattle.exchange.specs.declared.search.Reached.{Reached}
 use Rattle.exchange.specs.declared.search.Trace.{Trace}
 use Rattle.exchange.specs.Agents.{agentMatroid, holder}
 
--- below k, t stands at each fresh number, and the rest is as before
-pub record Assigned (to : List ℕ) (fresh t k : ℕ) (r : List ℕ) : Type 0 where
-  pub new : (x : ℕ) → x < k → T (bit fresh x) → getD r x 0 ≡ t
-  pub old : (x : ℕ) → T (not (bit fresh x)) → getD r x 0 ≡ getD to x 0
-
 -- what the source agents below k can gain is seen, with an agent that can gain it and no parent
 pub record Rooting (s : Agents) (owner : List ℕ) (sources k : ℕ) (r : Trace) : Type 0 where
   pub rooted : Rooted (s .n) (agentMatroid s) (holder owner) (bit sources) k (bit (r .seen)) (λ x. getD (r .to) x 0)

@@ -3,7 +3,7 @@ ghost use mathlib.Core.Path.{_≡_};
 ghost use mathlib.Core.List.{List};
 ghost use Prim.Native.Nat.{ℕ, _≤_, _<_};
 ghost use Rattle.exchange.specs.Agents.{Ready};
-ghost use Rattle.exchange.specs.Search.{Assigned, Rooting, Marked, endedAt, Exchanges, Rest, Scanned, Outcome};
+ghost use Rattle.exchange.specs.Search.{Rooting, Marked, endedAt, Exchanges, Rest, Scanned, Outcome};
 use super::Agents;
 use kinds::Valuation;
 
@@ -21,18 +21,6 @@ pub struct Reached {
     pub trace: Trace,
 }
 
-// The table with agent t at each of the fresh instruments.
-fn assigned(mut to: [u8; 64], fresh: u64, t: u8) -> [u8; 64]
-    ensures { λ r. ⌜ Assigned to fresh t 64 r ⌝ }
-{
-    for x in 0..64usize {
-        if sets::member(fresh, x) {
-            to[x] = t;
-        }
-    }
-    to
-}
-
 // What the source agents can gain, each with an agent that can gain it.
 fn roots(s: Agents, bundles: [u64; 12], sources: u64) -> Trace
     requires { ⌜ (s .m ≤ 64) × (s .n ≤ 12) ⌝ }
@@ -48,8 +36,7 @@ fn roots(s: Agents, bundles: [u64; 12], sources: u64) -> Trace
             let v = valuations[t];
             let free = kinds::gains_of(v, m, bundles[t]);
             let fresh = sets::minus(free, seen);
-            let next = assigned(to, fresh, t as u8);
-            to = next;
+            sets::assign(&mut to, fresh, t as u8);
             seen = sets::either(seen, free);
         }
     }

@@ -74,6 +74,9 @@ pub fn grown(v: Valuation, m: usize, set: u64, from: u64, most: usize) -> u64
     requires { ⌜ m ≤ 64 ⌝ }
     ensures { λ r. ⌜ Grown (matroidOf m v) set from most r ⌝ }
 {
+    if most == 0 {
+        return set;
+    }
     let team = v.team;
     if !stands(team, m, v.glued) {
         return set;

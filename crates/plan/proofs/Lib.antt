@@ -1,7 +1,11 @@
 pub mod Tables
+pub mod Each
+pub mod Rows
+pub mod Following
+pub mod Again
+pub mod Run
 pub mod Kept
 pub mod Steps
-pub mod Run
 pub mod Bounds
 pub mod Valuing
 pub mod Answers

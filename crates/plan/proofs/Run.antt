@@ -1,14 +1,15 @@
--- The loop of `read`: what is still to be read decides the answer.
+-- The loop of `read_commands`: what is still to be read decides the answer.
 use Prim.Native.Nat.{ℕ, zero, suc, _+_, _-_, _≤_, _<_}
 use mathlib.Core.Path.{_≡_, refl, sym, ap, _∙_, subst}
 use mathlib.Core.Bool.{Bool, true, false, cond, true≢false}
-use mathlib.Core.Logic.{_≢_}
-use mathlib.Core.List.{List}
+use mathlib.Core.Logic.{_⊎_, inl, inr, _≢_}
+use mathlib.Core.List.{List, []}
 use native.Mathlib.Omega.{arith}
-use lib.Dec.{eqb, leb, ltb}
+use native.Mathlib.Decide.{ℕ-discrete, decLt}
+use lib.Dec.{eqb, ltb}
 use lib.ListN.{length, getD, set, replicate, length-set}
-use lib.Seq.{getD-set-same, set-set}
-use borrow.Author.Tests.{eqb-true, eqb-false, leb-false, ltb-true, ltb-false}
+use lib.Seq.{getD-set-same, getD-set-other, ext-getD}
+use borrow.Author.Tests.{lt-ltb, le-ltb, ne-eqb, eqb-true, eqb-false}
 use Rattle.command.specs.declared.Command.{Command}
 use Rattle.command.specs.declared.Command.the-variants.{Missing, Unknown, Short, Start, Caps, Loops, Class, Put, Span, End}
 use Rattle.plan.specs.declared.step.Progress.{Progress}
@@ -20,27 +21,11 @@ use Rattle.command.specs.Fault.{fault, isEnd}
 use Rattle.command.specs.Carry.{start, openTeam, changedTeam, changedState}
 use Rattle.team.specs.Team.{blankTeam}
 use Rattle.plan.specs.Read.{refused, finished, changedTeams, readFrom, readPlan}
-use Rattle.plan.specs.Progress.{begun, noTeams, stopsAt, isOpening, withOpen, carriedOut, answered}
+use Rattle.plan.specs.Progress.{rowAt, teamsIn, Followed, Ended}
 use Rattle.command.proofs.Standing.{whole}
+use Rattle.plan.proofs.Each.{each-length, each-at}
 use Rattle.plan.proofs.Steps.{number, next, step-refused, step-end, step-next, plan-start}
-
--- a thirteenth team is refused
-room : (n : ℕ) (b : Bool) → leb 12 n ≡ b → _≡_ {A = ℕ} (cond b 7 0) 0 → n + 1 ≤ 12
-room n true t e = absurd (omega arith)
-room n false t e = let h = leb-false 12 n t in omega arith
-
-few-teams : (at : ℕ) (s : State) (team : Team) (command : Command) → s .n ≤ 12 → fault at s team command ≡ 0 → changedState s command .n ≤ 12
-unfolding fault changedState
-few-teams at s team Missing l e = l
-few-teams at s team Unknown l e = l
-few-teams at s team Short l e = l
-few-teams at s team (Start version m) l e = l
-few-teams at s team (Caps channels) l e = room (s .n) (leb 12 (s .n)) refl e
-few-teams at s team (Loops channels) l e = room (s .n) (leb 12 (s .n)) refl e
-few-teams at s team (Class class most) l e = l
-few-teams at s team (Put instrument class) l e = l
-few-teams at s team (Span instrument a b) l e = l
-few-teams at s team End l e = l
+use Rattle.plan.proofs.Following.{few-teams}
 
 -- The answer is what reading from here on comes to, and there is fuel for it.
 pub record Run (file : List ℕ) (at : ℕ) (s : State) (teams : List Team) : Type 0 where
@@ -95,34 +80,73 @@ module _ (file : List ℕ) (at : ℕ) (s : State) (teams : List Team) (run : Run
       let fits = w .fits in
       omega arith
 
--- ---- the open team and the closed ones
+-- ---- the rows
 
--- a team that is stored over another
-over : (teams : List Team) (n : ℕ) (team team′ : Team) → changedTeams (changedTeams teams n team) n team′ ≡ changedTeams teams n team′
-over teams n team team′ = go (ltb 0 n) refl
-  where
-    go : (b : Bool) → ltb 0 n ≡ b → changedTeams (changedTeams teams n team) n team′ ≡ changedTeams teams n team′
-    go true t = rw t (set-set teams (n - 1) team team′)
-    go false t = rw t refl
+-- team t of the rows
+team-in : (rows : List ℕ) (n t : ℕ) → t < 12 → getD (teamsIn rows n) t blankTeam ≡ cond (ltb t n) (rowAt rows (t + 1)) blankTeam
+unfolding teamsIn
+team-in rows n t l = each-at (λ t. cond (ltb t n) (rowAt rows (t + 1)) blankTeam) blankTeam 12 t l
 
--- the closed teams after a command
-abbrev pub closedBy : List Team → Progress → Command → List Team
-closedBy closed p command = cond (isOpening command) (withOpen closed p) closed
+teams-long : (rows : List ℕ) (n : ℕ) → length (teamsIn rows n) ≡ 12
+unfolding teamsIn
+teams-long rows n = each-length (λ t. cond (ltb t n) (rowAt rows (t + 1)) blankTeam) 12
 
--- where a command is carried out, it makes no difference whether the open team stands among the closed ones
-same-teams : (closed : List Team) (p : Progress) (command : Command)
-    → changedTeams (withOpen closed p) (changedState (p .s) command .n) (changedTeam (p .team) command) ≡ withOpen (closedBy closed p command) (carriedOut p command)
-unfolding changedState
-same-teams closed p Missing = over closed (p .s .n) (p .team) (changedTeam (p .team) Missing)
-same-teams closed p Unknown = over closed (p .s .n) (p .team) (changedTeam (p .team) Unknown)
-same-teams closed p Short = over closed (p .s .n) (p .team) (changedTeam (p .team) Short)
-same-teams closed p (Start version m) = over closed (p .s .n) (p .team) (changedTeam (p .team) (Start version m))
-same-teams closed p (Caps channels) = refl
-same-teams closed p (Loops channels) = refl
-same-teams closed p (Class class most) = over closed (p .s .n) (p .team) (changedTeam (p .team) (Class class most))
-same-teams closed p (Put instrument class) = over closed (p .s .n) (p .team) (changedTeam (p .team) (Put instrument class))
-same-teams closed p (Span instrument a b) = over closed (p .s .n) (p .team) (changedTeam (p .team) (Span instrument a b))
-same-teams closed p End = over closed (p .s .n) (p .team) (changedTeam (p .team) End)
+-- rows with the same teams
+rows-same : (rows rows′ : List ℕ) (n : ℕ) → ((k : ℕ) → k ≤ 12 → rowAt rows′ k ≡ rowAt rows k) → teamsIn rows′ n ≡ teamsIn rows n
+rows-same rows rows′ n same =
+    let long = teams-long rows′ n in
+    ext-getD blankTeam (teamsIn rows′ n) (teamsIn rows n) (long ∙ sym (teams-long rows n))
+    (λ t l. team-in rows′ n t (omega arith) ∙ ap (λ (team : Team). cond (ltb t n) team blankTeam) (same (t + 1) (omega arith)) ∙ sym (team-in rows n t (omega arith)))
+
+-- one row changed: it is that of the last team, and there are as many teams as before or one more
+module _ (rows rows′ : List ℕ) (n n′ : ℕ) (team : Team) (few : n′ ≤ 12) (near : (n′ ≡ n) ⊎ (n′ ≡ n + 1)) (row : rowAt rows′ n′ ≡ team) (other : (k : ℕ) → k ≤ 12 → k ≢ n′ → rowAt rows′ k ≡ rowAt rows k) where
+  -- of the other teams, those of the rows are the same as before
+  other-team : (t : ℕ) → t < 12 → t + 1 ≢ n′ → getD (teamsIn rows′ n′) t blankTeam ≡ getD (teamsIn rows n) t blankTeam
+  other-team t l d =
+      team-in rows′ n′ t l ∙ ap (λ (x : Team). cond (ltb t n′) x blankTeam) (other (t + 1) (omega arith) d) ∙ ap (λ (b : Bool). cond b (rowAt rows (t + 1)) blankTeam) (below near (decLt t n′)) ∙ sym (team-in rows n t l)
+    where
+      below : (n′ ≡ n) ⊎ (n′ ≡ n + 1) → Dec (t < n′) → ltb t n′ ≡ ltb t n
+      below (inl e) c = ap (ltb t) e
+      below (inr e) (yes b) = lt-ltb t n′ b ∙ sym (lt-ltb t n (omega arith))
+      below (inr e) (no b) = le-ltb t n′ (omega arith) ∙ sym (le-ltb t n (omega arith))
+
+  rows-set : teamsIn rows′ n′ ≡ changedTeams (teamsIn rows n) n′ team
+  rows-set = go (decLt 0 n′)
+    where
+      long : length (teamsIn rows n) ≡ 12
+      long = teams-long rows n
+
+      long′ : length (teamsIn rows′ n′) ≡ 12
+      long′ = teams-long rows′ n′
+
+      last : (t : ℕ) → t < 12 → t + 1 ≡ n′ → getD (teamsIn rows′ n′) t blankTeam ≡ team
+      last t l e = team-in rows′ n′ t l ∙ rw (lt-ltb t n′ (omega arith)) (ap (rowAt rows′) e ∙ row)
+
+      at : (t : ℕ) → t < 12 → 0 < n′ → Dec (t + 1 ≡ n′) → getD (teamsIn rows′ n′) t blankTeam ≡ getD (set (teamsIn rows n) (n′ - 1) team) t blankTeam
+      at t l some (yes e) = let here : t ≡ n′ - 1 = omega arith in last t l e ∙ sym (ap (λ (k : ℕ). getD (set (teamsIn rows n) (n′ - 1) team) k blankTeam) here ∙ getD-set-same (teamsIn rows n) (n′ - 1) team blankTeam (omega (arith, long)))
+      at t l some (no d) = other-team t l d ∙ sym (getD-set-other (teamsIn rows n) (n′ - 1) t team blankTeam (λ e. d (omega arith)))
+
+      go : Dec (0 < n′) → teamsIn rows′ n′ ≡ changedTeams (teamsIn rows n) n′ team
+      go (yes some) = rw (lt-ltb 0 n′ some) (ext-getD blankTeam (teamsIn rows′ n′) (set (teamsIn rows n) (n′ - 1) team) (long′ ∙ sym (length-set (teamsIn rows n) (n′ - 1) team ∙ long)) (λ t l. at t (omega (arith, long′)) some (ℕ-discrete (t + 1) n′)))
+      go (no d) = rw (le-ltb 0 n′ (omega arith)) (ext-getD blankTeam (teamsIn rows′ n′) (teamsIn rows n) (long′ ∙ sym long) (λ t l. other-team t (omega (arith, long′)) (λ e. absurd (omega arith))))
+
+-- a command opens no team, or one more, which does not depend on the one that was open
+data Opening (s : State) (command : Command) : Type 0 where
+  none : changedState s command .n ≡ s .n → Opening s command
+  one : changedState s command .n ≡ s .n + 1 → ((team team′ : Team) → changedTeam team command ≡ changedTeam team′ command) → Opening s command
+
+opening : (s : State) (command : Command) → Opening s command
+unfolding changedState changedTeam
+opening s Missing = none refl
+opening s Unknown = none refl
+opening s Short = none refl
+opening s (Start version m) = none refl
+opening s (Caps channels) = one refl (λ team team′. refl)
+opening s (Loops channels) = one refl (λ team team′. refl)
+opening s (Class class most) = none refl
+opening s (Put instrument class) = none refl
+opening s (Span instrument a b) = none refl
+opening s End = none refl
 
 -- before the first team a command that breaks no rule leaves the open team blank
 stays-blank : (at : ℕ) (s : State) (command : Command) → fault at s blankTeam command ≡ 0 → changedState s command .n ≤ 0 → changedTeam blankTeam command ≡ blankTeam
@@ -152,72 +176,131 @@ none-before s (Put instrument class) l = l
 none-before s (Span instrument a b) l = l
 none-before s End l = l
 
-long-closed : (closed : List Team) (n : ℕ) (team : Team) (b : Bool) → length (cond b (changedTeams closed n team) closed) ≡ length closed
-long-closed closed n team true = go (ltb 0 n)
-  where
-    go : (b : Bool) → length (cond b (set closed (n - 1) team) closed) ≡ length closed
-    go true = length-set closed (n - 1) team
-    go false = refl
-long-closed closed n team false = refl
-
--- Where the loop stands: the closed teams with the open one are those that have been read, and before the first team the open one is blank.
-pub record Stands (file : List ℕ) (at : ℕ) (p : Progress) (closed : List Team) : Type 0 where
-  pub run : Run file at (p .s) (withOpen closed p)
-  pub long : length closed ≡ 12
-  pub none : p .s .n ≤ 0 → p .team ≡ blankTeam
+-- Where the loop stands: the teams of the rows are those that have been read, and row 0 is blank.
+pub record Stands (file : List ℕ) (at : ℕ) (s : State) (rows : List ℕ) : Type 0 where
+  pub run : Run file at s (teamsIn rows (s .n))
+  pub blank : rowAt rows 0 ≡ blankTeam
+  pub long : length rows ≡ 2730
 
 -- at the start
-pub stands-start : (file : List ℕ) → getD file 0 0 ≡ 1 → Stands file 0 begun noTeams
-stands-start file e = record { run = run-start file e; long = refl; none = λ l. refl }
+pub stands-start : (file rows : List ℕ) → getD file 0 0 ≡ 1 → length rows ≡ 2730 → rowAt rows 0 ≡ blankTeam → Stands file 0 start rows
+unfolding teamsIn
+stands-start file rows e long blank = record { run = run-start file e; blank = blank; long = long }
 
-module _ (file : List ℕ) (at : ℕ) (p : Progress) (closed : List Team) (here : Stands file at p closed) where
+module _ (file : List ℕ) (at : ℕ) (s : State) (rows : List ℕ) (here : Stands file at s rows) (p : Progress) (rows′ : List ℕ) (done : Followed rows at s (commandAt file at) p rows′) where
   abbrev command : Command
   command = commandAt file at
 
   abbrev teams : List Team
-  teams = withOpen closed p
+  teams = teamsIn rows (s .n)
+
+  few : s .n ≤ 12
+  few = here .run .few
+
+  -- the open team is that of row n
+  is-open : rowAt rows (s .n) ≡ openTeam teams (s .n)
+  is-open = go (decLt 0 (s .n))
+    where
+      go : Dec (0 < s .n) → rowAt rows (s .n) ≡ openTeam teams (s .n)
+      go (yes l) =
+          let f = few in
+          let last : s .n - 1 + 1 ≡ s .n = omega arith in
+          rw (lt-ltb 0 (s .n) l) (sym (team-in rows (s .n) (s .n - 1) (omega arith) ∙ rw (lt-ltb (s .n - 1) (s .n) (omega arith)) (ap (rowAt rows) last)))
+      go (no d) =
+          let zero : s .n ≡ 0 = omega arith in
+          rw (le-ltb 0 (s .n) (omega arith)) (ap (rowAt rows) zero ∙ here .blank)
 
   abbrev f : ℕ
-  f = fault at (p .s) (p .team) command
+  f = fault at s (rowAt rows (s .n)) command
 
-  -- the open team is the last one
-  is-open : p .team ≡ openTeam teams (p .s .n)
-  is-open = go (ltb 0 (p .s .n)) refl
+  found : f ≡ number file at s teams
+  found = ap (λ (team : Team). fault at s team command) is-open
+
+  -- what following a command comes to, by the rule that is broken and whether it is END
+  data Way : Type 0 where
+    refuses : f ≢ 0 → p ≡ record { s = s; stopped = true; fault = f; at = at } → Way
+    ends : f ≡ 0 → isEnd command ≡ true → p ≡ record { s = s; stopped = true; fault = 0; at = at } → Way
+    goes : f ≡ 0 → isEnd command ≡ false → p ≡ record { s = changedState s command; stopped = false; fault = 0; at = at } → Way
+
+  way : Way
+  way = go (eqb f 0) refl (isEnd command) refl (done .is)
     where
-      go : (b : Bool) → ltb 0 (p .s .n) ≡ b → p .team ≡ openTeam teams (p .s .n)
-      go true t = let some = ltb-true 0 (p .s .n) t in let few = here .run .few in let long = here .long in rw t (sym (getD-set-same closed (p .s .n - 1) (p .team) blankTeam (omega arith)))
-      go false t = rw t (here .none (ltb-false 0 (p .s .n) t))
-
-  found : f ≡ number file at (p .s) teams
-  found = ap (λ (team : Team). fault at (p .s) team command) is-open
+      go : (b : Bool) → eqb f 0 ≡ b → (b′ : Bool) → isEnd command ≡ b′
+          → p ≡ cond b (cond b′ (record { s = s; stopped = true; fault = 0; at = at }) (record { s = changedState s command; stopped = false; fault = 0; at = at })) (record { s = s; stopped = true; fault = f; at = at }) → Way
+      go true t true e is = ends (eqb-true f 0 t) e is
+      go true t false e is = goes (eqb-true f 0 t) e is
+      go false t b′ e is = refuses (eqb-false f 0 t) is
 
   -- where reading stops
-  pub stops-here : stopsAt at p command ≡ true → answered file at p closed command ≡ readPlan file
-  stops-here = go (eqb f 0) refl
+  pub stops-here : p .stopped ≡ true → Ended file p rows′
+  stops-here stop = go way
     where
-      go : (b : Bool) → eqb f 0 ≡ b → cond b (isEnd command) true ≡ true → cond b (finished file at (p .s) teams) (refused f at) ≡ readPlan file
-      go true t e = run-end file at (p .s) teams (here .run) (sym found ∙ eqb-true f 0 t) e
-      go false t e = ap (λ (k : ℕ). refused k at) found ∙ run-refused file at (p .s) teams (here .run) (λ z. eqb-false f 0 t (found ∙ z))
+      go : Way → Ended file p rows′
+      go (refuses d is) = rw is (record {
+        few = few;
+        same = rw (ne-eqb f 0 d) (ap (λ (k : ℕ). refused k at) found ∙ run-refused file at s teams (here .run) (λ z. d (found ∙ z)));
+      })
+      go (ends z e is) = rw is (record {
+        few = few;
+        same = ap (finished file at s) (rows-same rows rows′ (s .n) (λ k l. done .other k l (inl stop))) ∙ run-end file at s teams (here .run) (sym found ∙ z) e;
+      })
+      go (goes z e is) = absurd (true≢false (sym stop ∙ ap (λ (x : Progress). x .stopped) is))
 
-  -- where it does not stop, no rule is broken and the command is no END
-  goes : stopsAt at p command ≡ false → (f ≡ 0) × (isEnd command ≡ false)
-  goes = go (eqb f 0) refl
-    where
-      go : (b : Bool) → eqb f 0 ≡ b → cond b (isEnd command) true ≡ false → (f ≡ 0) × (isEnd command ≡ false)
-      go true t e = (eqb-true f 0 t, e)
-      go false t e = absurd (true≢false e)
+  module _ (on : p .stopped ≡ false) where
+    -- where it goes on
+    goes-on : (f ≡ 0) × (isEnd command ≡ false) × (p .s ≡ changedState s command)
+    goes-on = go way
+      where
+        go : Way → (f ≡ 0) × (isEnd command ≡ false) × (p .s ≡ changedState s command)
+        go (refuses d is) = absurd (true≢false (sym (ap (λ (x : Progress). x .stopped) is) ∙ on))
+        go (ends z e is) = absurd (true≢false (sym (ap (λ (x : Progress). x .stopped) is) ∙ on))
+        go (goes z e is) = (z, e, ap (λ (x : Progress). x .s) is)
 
-  pub goes-on : stopsAt at p command ≡ false → Stands file (at + bytesOf command) (carriedOut p command) (closedBy closed p command)
-  goes-on e =
-      let (z, no-end) = goes e in
-      record {
-        run = subst (Run file (at + bytesOf command) (changedState (p .s) command))
-            (ap (λ (team : Team). changedTeams teams (changedState (p .s) command .n) (changedTeam team command)) (sym is-open) ∙ same-teams closed p command)
-            (run-next file at (p .s) teams (here .run) (sym found ∙ z) no-end);
-        long = long-closed closed (p .s .n) (p .team) (isOpening command) ∙ here .long;
-        none = λ l. let blank = here .none (none-before (p .s) command l) in
-            ap (λ (team : Team). changedTeam team command) blank ∙ stays-blank at (p .s) command (ap (λ (team : Team). fault at (p .s) team command) (sym blank) ∙ z) l;
-      }
+    abbrev n′ : ℕ
+    n′ = p .s .n
 
-  pub comes-nearer : stopsAt at p command ≡ false → length file - (at + bytesOf command) < length file - at
-  comes-nearer e = run-longer file at (p .s) teams (here .run) (sym found ∙ goes e .0)
+    -- there are as many teams as the command leaves
+    count : n′ ≡ changedState s command .n
+    count = ap (λ (x : State). x .n) (goes-on .2)
+
+    -- the changed row is that of the team that was open, changed
+    changed-row : rowAt rows′ n′ ≡ changedTeam (rowAt rows (s .n)) command
+    changed-row = done .row on ∙ go (opening s command)
+      where
+        go : Opening s command → changedTeam (rowAt rows n′) command ≡ changedTeam (rowAt rows (s .n)) command
+        go (none e) = ap (λ (k : ℕ). changedTeam (rowAt rows k) command) (count ∙ e)
+        go (one e free) = free (rowAt rows n′) (rowAt rows (s .n))
+
+    -- the teams of the rows are those of before, with the open one changed
+    teams-next : teamsIn rows′ n′ ≡ changedTeams teams n′ (changedTeam (openTeam teams (s .n)) command)
+    teams-next =
+        rows-set rows rows′ (s .n) n′ (changedTeam (rowAt rows (s .n)) command) few′ near changed-row (λ k l d. done .other k l (inr d)) ∙ ap (λ (team : Team). changedTeams teams n′ (changedTeam team command)) is-open
+      where
+        few′ : n′ ≤ 12
+        few′ = let l = few-teams at s (rowAt rows (s .n)) command few (goes-on .0) in omega (arith, count)
+
+        near : (n′ ≡ s .n) ⊎ (n′ ≡ s .n + 1)
+        near = elim (opening s command) [ none e ↦ inl (count ∙ e) | one e free ↦ inr (count ∙ e) ]
+
+    -- row 0 stays blank
+    stays : rowAt rows′ 0 ≡ blankTeam
+    stays = elim (ℕ-discrete 0 n′) [
+      | yes e ↦
+          let no-team : s .n ≡ 0 = let l = none-before s command (omega (arith, count)) in omega arith in
+          let was = ap (rowAt rows) no-team ∙ here .blank in
+          ap (rowAt rows′) e ∙ changed-row ∙ ap (λ (team : Team). changedTeam team command) was
+          ∙ stays-blank at s command (ap (λ (team : Team). fault at s team command) (sym was) ∙ goes-on .0) (omega (arith, count))
+      | no d ↦ done .other 0 (omega arith) (inr d) ∙ here .blank
+    ]
+
+    pub stands-next : length rows′ ≡ length rows → Stands file (at + bytesOf command) (p .s) rows′
+    stands-next long =
+        let next = run-next file at s teams (here .run) (sym found ∙ goes-on .0) (goes-on .1) in
+        record {
+          run = subst (Run file (at + bytesOf command) (p .s)) (sym teams-next) (subst (λ (x : State). Run file (at + bytesOf command) x (changedTeams teams (x .n) (changedTeam (openTeam teams (s .n)) command))) (sym (goes-on .2)) next);
+          blank = stays;
+          long = long ∙ here .long;
+        }
+
+    pub comes-nearer : length file - (at + bytesOf command) < length file - at
+    comes-nearer = run-longer file at s teams (here .run) (sym found ∙ goes-on .0)

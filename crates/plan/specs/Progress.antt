@@ -1,53 +1,50 @@
--- Reading one command: what the functions of `step` come to.
-use Prim.Native.Nat.{ℕ}
-use mathlib.Core.Bool.{Bool, true, false, cond}
-use mathlib.Core.List.{List}
-use lib.Dec.{eqb}
-use lib.ListN.{replicate}
+-- Reading one command: what the functions of `step` come to. The teams stand in a table of thirteen rows of 210 bytes: row 0 stays blank, and
+-- row n is the team opened n-th.
+use Prim.Native.Nat.{ℕ, _+_, _*_, _≤_}
+use mathlib.Core.Path.{_≡_}
+use mathlib.Core.Bool.{true, false, cond}
+use mathlib.Core.List.{List, [], _∷_}
+use mathlib.Core.Logic.{_⊎_, _≢_}
+use lib.Dec.{eqb, ltb}
+use Rattle.matroid.specs.Cuts.{each}
+use Rattle.team.specs.declared.Team.{Team}
+use Rattle.team.specs.Team.{blankTeam}
 use Rattle.command.specs.declared.Command.{Command}
-use Rattle.command.specs.declared.Command.the-variants.{Missing, Unknown, Short, Start, Caps, Loops, Class, Put, Span, End}
+use Rattle.command.specs.declared.State.{State}
+use Rattle.command.specs.Fault.{fault, isEnd}
+use Rattle.command.specs.Carry.{changedTeam, changedState}
+use Rattle.command.specs.Row.{part, rowTeam}
 use Rattle.plan.specs.declared.step.Progress.{Progress}
 use Rattle.plan.specs.declared.Reading.{Reading}
-use Rattle.team.specs.declared.Team.{Team}
-use Rattle.command.specs.Fault.{fault, isEnd}
-use Rattle.command.specs.Carry.{start, changedTeam, changedState}
-use Rattle.team.specs.Team.{blankTeam}
-use Rattle.plan.specs.Read.{refused, finished, changedTeams}
+use Rattle.plan.specs.Read.{refused, finished, readPlan}
 
--- nothing has been read
-abbrev pub begun : Progress
-begun = record { s = start; team = blankTeam }
+-- the team of row k
+unfoldable pub rowAt : List ℕ → ℕ → Team
+rowAt rows k = rowTeam (part rows (210 * k) 210)
 
-abbrev pub noTeams : List Team
-noTeams = replicate 12 blankTeam
+-- the teams of rows 1 to n, and blank ones beyond
+unfoldable pub teamsIn : List ℕ → ℕ → List Team
+teamsIn rows n = each 12 (λ t. cond (ltb t n) (rowAt rows (t + 1)) blankTeam ∷ [])
 
--- whether reading stops at a command: it breaks a rule or is an END
-abbrev pub stopsAt : ℕ → Progress → Command → Bool
-stopsAt at p command = cond (eqb (fault at (p .s) (p .team) command) 0) (isEnd command) true
+-- after a command, given the open team: it breaks a rule, it is an END in its place, or it is carried out
+abbrev pub followed : ℕ → State → Team → Command → Progress
+followed at s team command =
+    let number = fault at s team command in
+    cond (eqb number 0)
+    (cond (isEnd command) (record { s = s; stopped = true; fault = 0; at = at }) (record { s = changedState s command; stopped = false; fault = 0; at = at }))
+    (record { s = s; stopped = true; fault = number; at = at })
 
--- whether a command opens a team
-abbrev pub isOpening : Command → Bool
-isOpening Missing = false
-isOpening Unknown = false
-isOpening Short = false
-isOpening (Start version m) = false
-isOpening (Caps channels) = true
-isOpening (Loops channels) = true
-isOpening (Class class cap) = false
-isOpening (Put instrument class) = false
-isOpening (Span instrument a b) = false
-isOpening End = false
+-- what is read and the rows after a command: where it is carried out, the row of the team that is then open is changed, and no other
+pub record Followed (rows : List ℕ) (at : ℕ) (s : State) (command : Command) (r : Progress) (rows′ : List ℕ) : Type 0 where
+  pub is : r ≡ followed at s (rowAt rows (s .n)) command
+  pub row : r .stopped ≡ false → rowAt rows′ (r .s .n) ≡ changedTeam (rowAt rows (r .s .n)) command
+  pub other : (k : ℕ) → k ≤ 12 → (r .stopped ≡ true) ⊎ (k ≢ r .s .n) → rowAt rows′ k ≡ rowAt rows k
 
--- the teams with the open one among them
-abbrev pub withOpen : List Team → Progress → List Team
-withOpen closed p = changedTeams closed (p .s .n) (p .team)
+-- the answer where reading has stopped: at a command that breaks a rule, or at an END in its place
+abbrev pub answered : List ℕ → Progress → List ℕ → Reading
+answered file p rows = cond (eqb (p .fault) 0) (finished file (p .at) (p .s) (teamsIn rows (p .s .n))) (refused (p .fault) (p .at))
 
--- a command that is carried out
-abbrev pub carriedOut : Progress → Command → Progress
-carriedOut p command = record { s = changedState (p .s) command; team = changedTeam (p .team) command }
-
--- the answer at a command where reading stops
-abbrev pub answered : List ℕ → ℕ → Progress → List Team → Command → Reading
-answered file at p closed command =
-    let number = fault at (p .s) (p .team) command in
-    cond (eqb number 0) (finished file at (p .s) (withOpen closed p)) (refused number at)
+-- reading has stopped, and the answer is Read's
+pub record Ended (file : List ℕ) (p : Progress) (rows : List ℕ) : Type 0 where
+  pub few : p .s .n ≤ 12
+  pub same : answered file p rows ≡ readPlan file

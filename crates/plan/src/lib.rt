@@ -1,14 +1,18 @@
 // The plan file: commands of one byte with operands of one byte, read into twelve teams.
 ghost use mathlib.Core.Path.{_≡_};
-ghost use lib.ListN.{getD};
+ghost use lib.ListN.{length, getD};
+ghost use Rattle.team.specs.Team.{blankTeam};
 ghost use Rattle.plan.specs.Read.{readPlan, refused, finished};
+ghost use Rattle.plan.specs.Progress.{rowAt, Ended};
 ghost use Rattle.plan.specs.Teams.{valuationsOf};
 ghost use Rattle.plan.specs.Valid.{Valid};
 ghost use Rattle.plan.specs.Worth.{worthAnswer, WorthTold};
 use command::State;
+use command::carry;
 use command::decode;
 use command::reader::Reader;
 use kinds::Valuation;
+use step::Progress;
 use team::Team;
 
 mod step;
@@ -61,26 +65,22 @@ fn finish(file: &[u8], at: usize, s: State, teams: [Team; 12]) -> Reading
     }
 }
 
-// Reads the commands of a file whose first byte is 01: a reader hands out one after another, until one breaks a rule or is an END in its
-// place. It holds the reader, so it is proved by hand, and `step` does the work.
-fn read_commands(file: &[u8]) -> Reading
-    requires { ⌜ getD (now file) 0 0 ≡ 1 ⌝ }
-    ensures { λ r. ⌜ r ≡ readPlan (now (file .entry)) ⌝ }
+// Reads the commands of a file whose first byte is 01 into rows of teams: a reader hands out one after another, until one breaks a rule or is
+// an END in its place. It holds the reader, so it is proved by hand, and `step` does the work.
+fn read_commands(file: &[u8], rows: &mut [u8]) -> Progress
+    requires { ⌜ (getD (now file) 0 0 ≡ 1) × (length (now rows) ≡ 2730) × (rowAt (now rows) 0 ≡ blankTeam) ⌝ }
+    ensures { λ r. ⌜ Ended (now (file .entry)) r (now (rows .exit)) ⌝ }
 {
     let mut reader = Reader::new(file);
-    let mut p = step::begin();
-    let mut closed = step::none();
+    let mut s = carry::nothing();
     loop {
         let at = reader.at;
         let next = reader.next();
-        let command = next.command;
-        if step::stops(at, p, command) {
-            return step::answer(file, at, p, closed, command);
+        let p = step::follow(&mut *rows, s, at, next.command);
+        if p.stopped {
+            return p;
         }
-        if step::opens(command) {
-            closed = step::close(closed, p);
-        }
-        p = step::carry_out(p, command);
+        s = p.s;
         reader = next.reader;
     }
 }
@@ -92,7 +92,9 @@ pub fn read(file: &[u8]) -> Reading
     if decode::byte_at(file, 0) != 1 {
         return refuse(1, 0);
     }
-    read_commands(file)
+    let mut rows = [255u8; step::TABLE];
+    let p = read_commands(file, &mut rows);
+    step::answer(file, p, &rows)
 }
 
 // The valuation of each team of a plan, and one of no kind beyond the last.
@@ -105,15 +107,13 @@ pub fn valuations_of(r: Reading) -> [Valuation; 12]
     let usable = sets::all_below(r.m);
     let none = kinds::blank();
     let mut valuations = [none; 12];
-    for t in 0..12usize {
-        if t < n {
-            let team = teams[t];
-            valuations[t] = Valuation {
-                team,
-                usable,
-                glued: 0,
-            };
-        }
+    for t in 0..n {
+        let team = teams[t];
+        valuations[t] = Valuation {
+            team,
+            usable,
+            glued: 0,
+        };
     }
     valuations
 }

@@ -1,98 +1,84 @@
-// Reading, one command at a time: the open team is stored among the closed ones where the next one opens, and at the END.
+// Reading, one command at a time. The teams stand in a table of thirteen rows: row 0 stays blank, and row n is the team opened n-th, so that a
+// command changes the open team where it stands.
 ghost use mathlib.Core.Path.{_≡_};
 ghost use Prim.Native.Nat.{_≤_};
-ghost use Rattle.plan.specs.Progress.{begun, noTeams, stopsAt, isOpening, carriedOut, withOpen, answered};
+ghost use lib.ListN.{length};
+ghost use Rattle.plan.specs.Progress.{Followed, teamsIn, answered};
 use super::Reading;
 use command::Command;
 use command::State;
 use command::carry;
 use command::judge;
+use command::row;
 use team::Team;
 
-// What has been read besides the teams that are closed: the state and the open team.
+// How many bytes the table of thirteen rows has: 2,730.
+pub const TABLE: usize = 13 * row::WIDTH;
+
+// What has been read besides the teams; where reading has stopped, the rule that is broken (0: none, at an END) and the offset.
 pub struct Progress {
     pub s: State,
-    pub team: Team,
+    pub stopped: bool,
+    pub fault: usize,
+    pub at: usize,
 }
 
-// Nothing has been read yet.
-pub fn begin() -> Progress
-    ensures { λ r. ⌜ r ≡ begun ⌝ }
+// Follows a command at an offset: reading stops there, or the command is carried out.
+pub fn follow(rows: &mut [u8], s: State, at: usize, command: Command) -> Progress
+    requires { ⌜ (length (now rows) ≡ 2730) × (s .n ≤ 12) ⌝ }
+    ensures { λ r. ⌜ Followed (now (rows .entry)) at s command r (now (rows .exit)) ⌝ }
 {
+    let open = row::WIDTH * s.n;
+    let fault = judge::fault_of(&rows[open..open + row::WIDTH], at, s, command);
+    if fault != 0 {
+        return Progress {
+            s,
+            stopped: true,
+            fault,
+            at,
+        };
+    }
+    if judge::is_end(command) {
+        return Progress {
+            s,
+            stopped: true,
+            fault: 0,
+            at,
+        };
+    }
+    let next = carry::changed_state(s, command);
+    let open = row::WIDTH * next.n;
+    carry::change(&mut rows[open..open + row::WIDTH], command);
     Progress {
-        s: carry::nothing(),
-        team: team::blank(),
+        s: next,
+        stopped: false,
+        fault: 0,
+        at,
     }
 }
 
-// No team is closed yet.
-pub fn none() -> [Team; 12]
-    ensures { λ r. ⌜ r ≡ noTeams ⌝ }
+// The teams of the first n rows after the blank one, and blank ones beyond.
+fn teams(rows: &[u8], n: usize) -> [Team; 12]
+    requires { ⌜ (length (now rows) ≡ 2730) × (n ≤ 12) ⌝ }
+    ensures { λ r. ⌜ r ≡ teamsIn (now (rows .entry)) n ⌝ }
 {
-    [team::blank(); 12]
-}
-
-// Whether reading stops at a command: it breaks a rule or is an END.
-pub fn stops(at: usize, p: Progress, command: Command) -> bool
-    ensures { λ r. ⌜ r ≡ stopsAt at p command ⌝ }
-{
-    if judge::fault_of(at, p.s, p.team, command) == 0 {
-        judge::is_end(command)
-    } else {
-        true
-    }
-}
-
-// Whether a command opens a team.
-pub fn opens(command: Command) -> bool
-    ensures { λ r. ⌜ r ≡ isOpening command ⌝ }
-{
-    match command {
-        Command::Missing => false,
-        Command::Unknown => false,
-        Command::Short => false,
-        Command::Start(_, _) => false,
-        Command::Caps(_) => true,
-        Command::Loops(_) => true,
-        Command::Class(_, _) => false,
-        Command::Put(_, _) => false,
-        Command::Span(_, _, _) => false,
-        Command::End => false,
-    }
-}
-
-// The teams with the open one among them, where there is one.
-pub fn close(mut teams: [Team; 12], p: Progress) -> [Team; 12]
-    ensures { λ r. ⌜ r ≡ withOpen teams p ⌝ }
-{
-    let k = p.s.n;
-    let team = p.team;
-    if 0 < k {
-        if k <= 12 {
-            teams[k - 1] = team;
-        }
+    let mut teams = [team::blank(); 12];
+    for t in 0..n {
+        let start = row::WIDTH * (t + 1);
+        let end = start + row::WIDTH;
+        let team = row::team(&rows[start..end]);
+        teams[t] = team;
     }
     teams
 }
 
-// Carries a command out.
-pub fn carry_out(p: Progress, command: Command) -> Progress
-    requires { ⌜ p .s .n ≤ 12 ⌝ }
-    ensures { λ r. ⌜ r ≡ carriedOut p command ⌝ }
+// The answer where reading has stopped.
+pub fn answer(file: &[u8], p: Progress, rows: &[u8]) -> Reading
+    requires { ⌜ (length (now rows) ≡ 2730) × (p .s .n ≤ 12) ⌝ }
+    ensures { λ r. ⌜ r ≡ answered (now (file .entry)) p (now (rows .entry)) ⌝ }
 {
-    Progress {
-        s: carry::changed_state(p.s, command),
-        team: carry::changed_team(p.team, command),
+    if p.fault != 0 {
+        return super::refuse(p.fault, p.at);
     }
-}
-
-// The answer at a command where reading stops.
-pub fn answer(file: &[u8], at: usize, p: Progress, closed: [Team; 12], command: Command) -> Reading
-    ensures { λ r. ⌜ r ≡ answered (now (file .entry)) at p closed command ⌝ }
-{
-    let fault = judge::fault_of(at, p.s, p.team, command);
-    if fault != 0 {
-        return super::refuse(fault, at);
-    }
-    super::finish(file, at, p.s, close(closed, p))
+    super::finish(file, p.at, p.s, teams(rows, p.s.n))
 }

@@ -7,7 +7,7 @@ use native.Mathlib.Decide.{decLt}
 use lib.Dec.{T, ltb}
 use lib.Pow.{pow-pos}
 use borrow.Author.Tests.{lt-ltb, le-ltb}
-use Rattle.matroid.specs.Set.{Set, _∩_, under, one, size}
+use Rattle.matroid.specs.Set.{Set, _∩_, _∖_, under, complement, one, size}
 use Rattle.matroid.specs.SetLaws.{size-agree}
 use Rattle.sets.specs.Bits.{bit}
 use Rattle.sets.proofs.Words.{bit-high}
@@ -41,3 +41,8 @@ under-size w m A l = size-agree w (under m ∩ A) (A ∩ under m) (λ k _. and-c
 pub below-size : (m set all s r : ℕ) → m ≤ 64 → ((j : ℕ) → bit all j ≡ under m j) → ((j : ℕ) → bit s j ≡ (bit set ∩ bit all) j) → r ≡ size 64 (bit s) → r ≡ size m (bit set)
 below-size m set all s r l eall es er =
     er ∙ ap (size 64) (fun-ext (λ j. es j ∙ ap (λ (b : Bool). bit set j && b) (eall j))) ∙ size-under 64 m (bit set) l
+
+-- the count of the word of the members below m that are not in the set
+pub outside-size : (m set all s r : ℕ) → m ≤ 64 → ((j : ℕ) → bit all j ≡ under m j) → ((j : ℕ) → bit s j ≡ (bit all ∖ bit set) j) → r ≡ size 64 (bit s) → r ≡ size m (complement (bit set))
+outside-size m set all s r l eall es er =
+    er ∙ ap (size 64) (fun-ext (λ j. es j ∙ ap (λ (b : Bool). b && not (bit set j)) (eall j))) ∙ under-size 64 m (complement (bit set)) l

@@ -6,3 +6,4 @@ pub mod Equal
 pub mod Below
 pub mod Members
 pub mod Growing
+pub mod Assigning

@@ -1,5 +1,6 @@
--- Definition to believe: Bits (the set that a word stands for). Lowest, Bundles and Joining have the words of contracts.
+-- Definition to believe: Bits (the set that a word stands for). Lowest, Bundles, Joining and Assigned have the words of contracts.
 pub mod Bits
 pub mod Lowest
 pub mod Bundles
 pub mod Joining
+pub mod Assigned

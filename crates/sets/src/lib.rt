@@ -2,9 +2,11 @@
 ghost use mathlib.Core.Path.{_≡_};
 ghost use mathlib.Core.Bool.{_&&_, not};
 ghost use Prim.Native.Nat.{ℕ, _<_, _≤_};
-ghost use Rattle.matroid.specs.Set.{_∪_, _∩_, _∖_, only, with, without, under, size};
+ghost use lib.ListN.{length};
+ghost use Rattle.matroid.specs.Set.{_∪_, _∩_, _∖_, only, with, without, under, complement, size};
 ghost use Rattle.sets.specs.Bits.{bit};
 ghost use Rattle.sets.specs.Lowest.{Lowest};
+ghost use Rattle.sets.specs.Assigned.{Assigned};
 
 // Whether k is in s.
 pub fn member(s: u64, k: usize) -> bool
@@ -101,9 +103,33 @@ pub fn size_below(m: usize, set: u64) -> usize
     size(both(set, all_below(m)))
 }
 
+// How many instruments below m are outside a set.
+pub fn outside(m: usize, set: u64) -> usize
+    requires { ⌜ m ≤ 64 ⌝ }
+    ensures { λ r. ⌜ r ≡ size m (complement (bit set)) ⌝ }
+{
+    size(minus(all_below(m), set))
+}
+
 // A byte as a number.
 pub fn wide(byte: u8) -> usize
     ensures { λ r. ⌜ r ≡ byte ⌝ }
 {
     byte as usize
+}
+
+// Writes a value at each member of a set.
+pub fn assign(table: &mut [u8; 64], set: u64, value: u8)
+    requires { ⌜ length (now table) ≡ 64 ⌝ }
+    ensures { λ _. ⌜ Assigned (now (table .entry)) set value (now (table .exit)) ⌝ }
+{
+    let mut left = set;
+    loop {
+        let k = lowest(left);
+        if k >= 64 {
+            return;
+        }
+        table[k] = value;
+        left = without(left, k);
+    }
 }

@@ -2,6 +2,7 @@
 ghost use Prim.Native.Nat.{_≤_};
 use crate::defined;
 use command::Command;
+use command::row;
 use kinds::Valuation;
 use lines::print;
 use team::Team;
@@ -16,18 +17,18 @@ fn width(command: Command) -> usize
 
 // The team that the commands after the tenth byte fill, by no rule but the tables' sizes.
 fn filled(bytes: &[u8]) -> Team {
-    let mut team = team::blank();
+    let mut row = [255u8; row::WIDTH];
     let mut at: usize = 10;
     while at < bytes.len() {
         let command = command::decode::command_at(bytes, at);
         let w = width(command);
         if w == 0 {
-            return team;
+            return row::team(&row);
         }
-        team = command::carry::changed_team(team, command);
+        command::carry::change(&mut row, command);
         at += w;
     }
-    team
+    row::team(&row)
 }
 
 // The set of the third byte to the tenth, low byte first.

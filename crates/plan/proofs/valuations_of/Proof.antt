@@ -1,21 +1,20 @@
 -- `valuations_of` meets its contract. The invariant: the entries below t are the valuations of the teams.
-use Prim.Native.Nat.{_≤_, _-_}
+use Prim.Native.Nat.{_-_, _≤_, _<_}
 use mathlib.Core.Path.{_≡_, refl}
 use native.Mathlib.Omega.{arith}
 use lib.ListN.{length}
-use mathlib.Core.Logic.{⊎-elim}
-use Rattle.plan.proofs.Valuing.{Valued, valued-none, valued-take, valued-skip, below-word, valued-all}
+use Rattle.kinds.specs.Valuations.{blankValuation}
+use Rattle.plan.proofs.Each.{Tabled, tabled-none, tabled-next}
+use Rattle.plan.proofs.Valuing.{below-word, valuedAt, valued-at, valued-all}
 use borrow.Author.Needs.{needs}
 use Rattle.plan.proofs.valuations_of.Statement.{statement}
 use Rattle.plan.proofs.valuations_of.Tie as tie
-use Rattle.plan.proofs.valuations_of.Reads as reads
-use Rattle.plan.proofs.valuations_of.Lts as lts
 
 abbrev Inv-loop : tie.InvT-loop
-Inv-loop n teams usable valuations₀ t₀ valuations t = (t ≤ 12) × (length teams ≡ 12) × Valued n teams usable t valuations
+Inv-loop n teams usable valuations₀ t₀ valuations t = (t ≤ n) × Tabled (valuedAt teams usable) blankValuation t valuations
 
 abbrev μ-loop : tie.MeasureT-loop
-μ-loop n teams usable valuations₀ t₀ valuations t = 12 - t
+μ-loop n teams usable valuations₀ t₀ valuations t = n - t
 
 all-below-requires : tie.Need-all-below-requires Inv-loop μ-loop
 all-below-requires c κs = c .before .pre .small
@@ -24,7 +23,7 @@ blank-requires : tie.Need-blank-requires Inv-loop μ-loop
 blank-requires c κs = search needs
 
 loop-holds : tie.Need-loop-holds Inv-loop μ-loop
-loop-holds c = (search needs, c .before .before .before .pre .teams-long, valued-none _ _ _ _ (c .blank .ensures))
+loop-holds c = (search needs, tabled-none _ _ _ (c .blank .ensures))
 
 mul-team : tie.Need-mul-team Inv-loop μ-loop
 mul-team c = search needs
@@ -36,7 +35,7 @@ mul-valuations : tie.Need-mul-valuations Inv-loop μ-loop
 mul-valuations c = search needs
 
 array-set-from-valuations : tie.Need-array-set-from-valuations Inv-loop μ-loop
-array-set-from-valuations c = omega (arith, c .before .before .loop-test .taken)
+array-set-from-valuations c = search needs
 
 add-t : tie.Need-add-t Inv-loop μ-loop
 add-t c = search needs
@@ -46,18 +45,16 @@ loop-less c = search needs
 
 loop-again : tie.Need-loop-again Inv-loop μ-loop
 loop-again c =
-    let h = c .before .before .loop .inv .2 in
-    let l = c .before .loop-test .taken in (
-      search needs,
-      c .before .before .loop .inv .1,
-      ⊎-elim (λ w. rw (w .2) (valued-take _ _ _ _ _ h l _ _ (c .before .before .loop .inv .1) (w .0 .taken) refl)) (λ w. rw (w .1) (valued-skip _ _ _ _ _ h l (w .0 .left))) (c .if1 .came),
-    )
+    let valid = c .before .before .before .before .before .before .pre in
+    let l : c .before .before .loop .t < 12 = omega (arith, c .before .loop-test .taken, valid .few) in
+    let wide : c .before .before .loop .t < length (c .before .before .before .before .before .before .args .r .teams) = omega (arith, valid .teams-long) in
+    (search needs, tabled-next _ _ _ _ (c .before .before .loop .inv .1) l _ (valued-at (c .before .before .before .before .before .before .args .r .teams) _ _ _ _ wide refl))
 
 returns : tie.Need-returns Inv-loop μ-loop
 returns c =
-    let e : c .before .loop .t ≡ 12 = omega (arith, c .loop-test .left) in
+    let e : c .before .loop .t ≡ c .before .before .before .before .before .args .r .n = omega arith in
     let all = c .before .before .before .all-below in
-    valued-all _ _ _ (below-word _ _ (c .before .before .before .before .before .pre .small) (all .ok) (all .ensures)) (rw e at (c .before .loop .inv .2))
+    valued-all _ _ _ (below-word _ _ (c .before .before .before .before .before .pre .small) (all .ok) (all .ensures)) (rw e at (c .before .loop .inv .1))
 
 pub valuations-of-spec : {M : Type 1} → statement M
 valuations-of-spec =

@@ -1,6 +1,6 @@
 use Prim.Native.Nat.{_≤_, _-_}
 use Rattle.kinds.specs.Valuations.{matroidOf}
-use Rattle.checker.proofs.Shared.{Reached, reached-none, reached-next, reached-stop, reached-done}
+use Rattle.checker.proofs.Shared.{Reached, reached-none, reached-zero, reached-next, reached-stop, reached-done}
 use borrow.Author.Needs.{needs}
 use Rattle.checker.proofs.shares.parts_hold.Statement.{statement}
 use Rattle.checker.proofs.shares.parts_hold.Tie as tie
@@ -10,6 +10,9 @@ Inv-loop valuation m n share parts p₀ p = (p ≤ n) × Reached (matroidOf m va
 
 abbrev μ-loop : tie.MeasureT-loop
 μ-loop valuation m n share parts p₀ p = n - p
+
+returns : tie.Need-returns Inv-loop μ-loop
+returns c = reached-done (matroidOf (c .before .args .m) (c .before .args .valuation)) (c .before .args .share) (c .before .args .t5) (c .before .args .n) (reached-zero (matroidOf (c .before .args .m) (c .before .args .valuation)) (c .before .args .share) (c .before .args .t5) (c .before .args .n) (c .if1 .taken)) (c .before .args .n) (c .before .pre .1) (search needs)
 
 loop-holds : tie.Need-loop-holds Inv-loop μ-loop
 loop-holds c = (search needs, reached-none _ _ _)
@@ -23,8 +26,8 @@ array-read-worth-of c = search needs
 worth-of-requires : tie.Need-worth-of-requires Inv-loop μ-loop
 worth-of-requires c κs = search needs
 
-returns : tie.Need-returns Inv-loop μ-loop
-returns c = reached-stop (matroidOf (c .before .before .before .before .args .m) (c .before .before .before .before .args .valuation)) (c .before .before .before .before .args .share) (c .before .before .before .before .args .t5) (c .before .before .before .loop .p) (c .before .before .before .loop .inv .1) (c .before .before .before .before .args .n) _ (c .before .before .before .before .pre .1) (c .before .before .loop-test .taken) (c .before .worth-of .ensures) (c .if1 .taken)
+returns-2 : tie.Need-returns-2 Inv-loop μ-loop
+returns-2 c = reached-stop (matroidOf (c .before .before .before .before .before .args .m) (c .before .before .before .before .before .args .valuation)) (c .before .before .before .before .before .args .share) (c .before .before .before .before .before .args .t5) (c .before .before .before .loop .p) (c .before .before .before .loop .inv .1) (c .before .before .before .before .before .args .n) _ (c .before .before .before .before .before .pre .1) (c .before .before .loop-test .taken) (c .before .worth-of .ensures) (c .if2 .taken)
 
 add-p : tie.Need-add-p Inv-loop μ-loop
 add-p c = search needs
@@ -33,10 +36,10 @@ loop-less : tie.Need-loop-less Inv-loop μ-loop
 loop-less c = search needs
 
 loop-again : tie.Need-loop-again Inv-loop μ-loop
-loop-again c = (search needs, reached-next (matroidOf (c .before .before .before .before .args .m) (c .before .before .before .before .args .valuation)) (c .before .before .before .before .args .share) (c .before .before .before .before .args .t5) (c .before .before .before .loop .p) (c .before .before .before .loop .inv .1) _ (c .before .worth-of .ensures) (c .if1 .left))
+loop-again c = (search needs, reached-next (matroidOf (c .before .before .before .before .before .args .m) (c .before .before .before .before .before .args .valuation)) (c .before .before .before .before .before .args .share) (c .before .before .before .before .before .args .t5) (c .before .before .before .loop .p) (c .before .before .before .loop .inv .1) _ (c .before .worth-of .ensures) (c .if2 .left))
 
-returns-2 : tie.Need-returns-2 Inv-loop μ-loop
-returns-2 c = reached-done (matroidOf (c .before .before .args .m) (c .before .before .args .valuation)) (c .before .before .args .share) (c .before .before .args .t5) (c .before .loop .p) (c .before .loop .inv .1) (c .before .before .args .n) (c .before .before .pre .1) (c .loop-test .left)
+returns-3 : tie.Need-returns-3 Inv-loop μ-loop
+returns-3 c = reached-done (matroidOf (c .before .before .before .args .m) (c .before .before .before .args .valuation)) (c .before .before .before .args .share) (c .before .before .before .args .t5) (c .before .loop .p) (c .before .loop .inv .1) (c .before .before .before .args .n) (c .before .before .before .pre .1) (c .loop-test .left)
 
 pub parts-hold-spec : {M : Type 1} → statement M
 parts-hold-spec =
@@ -44,12 +47,13 @@ parts-hold-spec =
     (tie.spec
     Inv-loop
     μ-loop
+    returns
     loop-holds
     mul-worth-of
     array-read-worth-of
     worth-of-requires
-    returns
+    returns-2
     add-p
     loop-less
     loop-again
-    returns-2)
+    returns-3)

@@ -39,36 +39,18 @@ returns-3 c =
     let h3 : length (now (c .before .before .before .before .before .before .args .file)) < c .before .before .before .before .before .before .args .at + w = omega (arith, c .if3 .taken) in
     simp (decided, h1, h2, h3)
 
-add-byte-at : tie.Need-add-byte-at
-add-byte-at c = search needs
-
-byte-at-requires : tie.Need-byte-at-requires
-byte-at-requires c κs = search needs
-
-add-byte-at-2 : tie.Need-add-byte-at-2
-add-byte-at-2 c = search needs
-
-byte-at-requires-2 : tie.Need-byte-at-requires-2
-byte-at-requires-2 c κs = search needs
-
-add-byte-at-3 : tie.Need-add-byte-at-3
-add-byte-at-3 c = search needs
-
-byte-at-requires-3 : tie.Need-byte-at-requires-3
-byte-at-requires-3 c κs = search needs
-
 command-of-requires : tie.Need-command-of-requires
 command-of-requires c κs = search needs
 
 returns-4 : tie.Need-returns-4
 unfolding commandAt
 returns-4 c =
-    let w = widthOf (getD (now (c .before .before .before .before .before .before .before .before .before .before .args .file)) (c .before .before .before .before .before .before .before .before .before .before .args .at) 0) in
-    let h1 = c .before .before .before .before .before .before .before .before .if1 .left in
-    let same : c .before .before .before .before .before .before .width-of .result ≡ w = c .before .before .before .before .before .before .width-of .ensures in
-    let h2 : w ≡ 0 → ⊥ = λ z. c .before .before .before .before .before .if2 .left (same ∙ z) in
-    let h3 : c .before .before .before .before .before .before .before .before .before .before .args .at + w ≤ length (now (c .before .before .before .before .before .before .before .before .before .before .args .file)) = omega (arith, c .before .before .before .before .if3 .left, h1) in
-    simp (decided, h1, h2, h3) (c .command-of .ensures ∙ rw (c .before .before .before .byte-at .ensures, c .before .before .byte-at2 .ensures, c .before .byte-at3 .ensures))
+    let w = widthOf (getD (now (c .before .before .before .before .before .before .before .args .file)) (c .before .before .before .before .before .before .before .args .at) 0) in
+    let h1 = c .before .before .before .before .before .if1 .left in
+    let same : c .before .before .before .width-of .result ≡ w = c .before .before .before .width-of .ensures in
+    let h2 : w ≡ 0 → ⊥ = λ z. c .before .before .if2 .left (same ∙ z) in
+    let h3 : c .before .before .before .before .before .before .before .args .at + w ≤ length (now (c .before .before .before .before .before .before .before .args .file)) = omega (arith, c .before .if3 .left, h1) in
+    simp (decided, h1, h2, h3) (c .command-of .ensures)
 
 pub command-at-spec : {M : Type 1} → statement M
 command-at-spec =
@@ -80,11 +62,5 @@ command-at-spec =
     returns-2
     sub-if3
     returns-3
-    add-byte-at
-    byte-at-requires
-    add-byte-at-2
-    byte-at-requires-2
-    add-byte-at-3
-    byte-at-requires-3
     command-of-requires
     returns-4)

@@ -1,28 +1,126 @@
+use native.Mathlib.Omega.{arith}
 use borrow.Author.Tests.{ne-eqb}
+use borrow.Author.Needs.{needs}
 use Rattle.command.proofs.decode.command_of.Statement.{statement}
 use Rattle.command.proofs.decode.command_of.Tie as tie
 
+add-t5 : tie.Need-add-t5
+add-t5 c = search needs
+
+shared-slice-read-t7 : tie.Need-shared-slice-read-t7
+shared-slice-read-t7 c = omega (arith, rw (c .before .match .keys1) at (c .before .before .pre))
+
+add-t8 : tie.Need-add-t8
+add-t8 c = search needs
+
+shared-slice-read-t10 : tie.Need-shared-slice-read-t10
+shared-slice-read-t10 c = omega (arith, rw (c .before .before .match .keys1) at (c .before .before .before .pre))
+
+add-t11 : tie.Need-add-t11
+add-t11 c = search needs
+
+shared-slice-read-t13 : tie.Need-shared-slice-read-t13
+shared-slice-read-t13 c = omega (arith, rw (c .before .match .keys2) at (c .before .before .pre))
+
+add-t14 : tie.Need-add-t14
+add-t14 c = search needs
+
+shared-slice-read-t16 : tie.Need-shared-slice-read-t16
+shared-slice-read-t16 c = omega (arith, rw (c .before .match .keys3) at (c .before .before .pre))
+
+add-t17 : tie.Need-add-t17
+add-t17 c = search needs
+
+shared-slice-read-t19 : tie.Need-shared-slice-read-t19
+shared-slice-read-t19 c = omega (arith, rw (c .before .match .keys4) at (c .before .before .pre))
+
+add-t20 : tie.Need-add-t20
+add-t20 c = search needs
+
+shared-slice-read-t22 : tie.Need-shared-slice-read-t22
+shared-slice-read-t22 c = omega (arith, rw (c .before .before .match .keys4) at (c .before .before .before .pre))
+
+add-t23 : tie.Need-add-t23
+add-t23 c = search needs
+
+shared-slice-read-t25 : tie.Need-shared-slice-read-t25
+shared-slice-read-t25 c = omega (arith, rw (c .before .match .keys5) at (c .before .before .pre))
+
+add-t26 : tie.Need-add-t26
+add-t26 c = search needs
+
+shared-slice-read-t28 : tie.Need-shared-slice-read-t28
+shared-slice-read-t28 c = omega (arith, rw (c .before .before .match .keys5) at (c .before .before .before .pre))
+
+add-t29 : tie.Need-add-t29
+add-t29 c = search needs
+
+shared-slice-read-t31 : tie.Need-shared-slice-read-t31
+shared-slice-read-t31 c = omega (arith, rw (c .before .match .keys6) at (c .before .before .pre))
+
+add-t32 : tie.Need-add-t32
+add-t32 c = search needs
+
+shared-slice-read-t34 : tie.Need-shared-slice-read-t34
+shared-slice-read-t34 c = omega (arith, rw (c .before .before .match .keys6) at (c .before .before .before .pre))
+
+add-t35 : tie.Need-add-t35
+add-t35 c = search needs
+
+shared-slice-read-t37 : tie.Need-shared-slice-read-t37
+shared-slice-read-t37 c = omega (arith, rw (c .before .before .before .match .keys6) at (c .before .before .before .before .pre))
+
 returns : tie.Need-returns
-returns c = rw (c .match .keys1)
+returns c = rw (c .before .before .match .keys1)
 
 returns-2 : tie.Need-returns-2
-returns-2 c = rw (c .match .keys2)
+returns-2 c = rw (c .before .match .keys2)
 
 returns-3 : tie.Need-returns-3
-returns-3 c = rw (c .match .keys3)
+returns-3 c = rw (c .before .match .keys3)
 
 returns-4 : tie.Need-returns-4
-returns-4 c = rw (c .match .keys4)
+returns-4 c = rw (c .before .before .match .keys4)
 
 returns-5 : tie.Need-returns-5
-returns-5 c = rw (c .match .keys5)
+returns-5 c = rw (c .before .before .match .keys5)
 
 returns-6 : tie.Need-returns-6
-returns-6 c = rw (c .match .keys6)
+returns-6 c = rw (c .before .before .before .match .keys6)
 
 returns-7 : tie.Need-returns-7
 returns-7 c = let h = c .match .rest in rw (ne-eqb (c .before .args .byte) 1 (h .0 .0 .0 .0 .0 .1), ne-eqb (c .before .args .byte) 2 (h .0 .0 .0 .0 .1), ne-eqb (c .before .args .byte) 3 (h .0 .0 .0 .1), ne-eqb (c .before .args .byte) 4 (h .0 .0 .1), ne-eqb (c .before .args .byte) 5 (h .0 .1), ne-eqb (c .before .args .byte) 6 (h .1))
 
 pub command-of-spec : {M : Type 1} → statement M
 command-of-spec =
-    tie.close (tie.spec returns returns-2 returns-3 returns-4 returns-5 returns-6 returns-7)
+    tie.close
+    (tie.spec
+    add-t5
+    shared-slice-read-t7
+    add-t8
+    shared-slice-read-t10
+    add-t11
+    shared-slice-read-t13
+    add-t14
+    shared-slice-read-t16
+    add-t17
+    shared-slice-read-t19
+    add-t20
+    shared-slice-read-t22
+    add-t23
+    shared-slice-read-t25
+    add-t26
+    shared-slice-read-t28
+    add-t29
+    shared-slice-read-t31
+    add-t32
+    shared-slice-read-t34
+    add-t35
+    shared-slice-read-t37
+    returns
+    returns-2
+    returns-3
+    returns-4
+    returns-5
+    returns-6
+    returns-7)

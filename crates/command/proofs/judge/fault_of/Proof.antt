@@ -1,4 +1,5 @@
 use Rattle.command.specs.Fault.{fault}
+use Rattle.command.specs.Row.{rowTeam}
 use borrow.Author.Needs.{needs}
 use Rattle.command.proofs.judge.fault_of.Statement.{statement}
 use Rattle.command.proofs.judge.fault_of.Tie as tie
@@ -32,6 +33,9 @@ team-fault-requires-2 c κs = search needs
 
 enum-known-command-2 : tie.Need-enum-known-command-2
 enum-known-command-2 c = search needs
+
+shared-slice-read-class-fault : tie.Need-shared-slice-read-class-fault
+shared-slice-read-class-fault c = search needs
 
 class-fault-requires : tie.Need-class-fault-requires
 class-fault-requires c κs = search needs
@@ -79,8 +83,8 @@ unfolding fault
 returns-6 c = rw (c .before .enum-told5 .given .1) (c .team-fault2 .ensures)
 
 returns-7 : tie.Need-returns-7
-unfolding fault
-returns-7 c = rw (c .before .before .command2 .given .1) (c .class-fault .ensures)
+unfolding fault rowTeam
+returns-7 c = rw (c .before .before .before .command2 .given .1) (c .class-fault .ensures)
 
 returns-8 : tie.Need-returns-8
 unfolding fault
@@ -108,6 +112,7 @@ fault-of-spec =
     enum-told-5
     team-fault-requires-2
     enum-known-command-2
+    shared-slice-read-class-fault
     class-fault-requires
     enum-known-command-3
     put-fault-requires

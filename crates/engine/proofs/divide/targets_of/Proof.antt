@@ -8,10 +8,10 @@ use Rattle.engine.proofs.divide.targets_of.Statement.{statement}
 use Rattle.engine.proofs.divide.targets_of.Tie as tie
 
 abbrev Inv-loop : tie.InvT-loop
-Inv-loop shares targets₀ t₀ targets t = (t ≤ 12) × Targets shares t targets
+Inv-loop n shares targets₀ t₀ targets t = (t ≤ n) × Targets shares t targets
 
 abbrev μ-loop : tie.MeasureT-loop
-μ-loop shares targets₀ t₀ targets t = 12 - t
+μ-loop n shares targets₀ t₀ targets t = n - t
 
 loop-holds : tie.Need-loop-holds Inv-loop μ-loop
 loop-holds c = (search needs, targets-none _)
@@ -32,10 +32,10 @@ loop-less : tie.Need-loop-less Inv-loop μ-loop
 loop-less c = search needs
 
 loop-again : tie.Need-loop-again Inv-loop μ-loop
-loop-again c = (search needs, targets-more _ _ (c .before .before .loop .targets) _ (c .before .loop-test .taken) (c .before .before .loop .inv .1) refl)
+loop-again c = (search needs, targets-more _ _ (c .before .before .loop .targets) _ (omega (arith, c .before .loop-test .taken, c .before .before .before .pre)) (c .before .before .loop .inv .1) refl)
 
 returns : tie.Need-returns Inv-loop μ-loop
-returns c = let e : c .before .loop .t ≡ 12 = omega arith in rw e at (c .before .loop .inv .1)
+returns c = let e : c .before .loop .t ≡ c .before .before .args .n = omega arith in rw e at (c .before .loop .inv .1)
 
 pub targets-of-spec : {M : Type 1} → statement M
 targets-of-spec =

@@ -1,13 +1,9 @@
-use Prim.Native.Nat.{_<_, _-_}
-use mathlib.Core.Path.{subst⁻¹}
+use Prim.Native.Nat.{_-_}
 use native.Mathlib.Omega.{arith}
-use lib.Dec.{T, lt→ltb}
 use borrow.Author.Tests.{not-true, not-false}
 use Rattle.exchange.specs.Agents.{Held}
 use Rattle.engine.specs.Fill.{given}
-use Rattle.exchange.proofs.Advance.{Advanced, advances}
-use Rattle.engine.proofs.Sizes.{given-le, given-more}
-use Rattle.engine.proofs.Filling.{ready-of, pool-end, fill-done}
+use Rattle.engine.proofs.Filling.{ready-of, worthless-full, fill-held, fill-less, fill-done}
 use borrow.Author.Needs.{needs}
 use Rattle.engine.proofs.fill.fill.Statement.{statement}
 use Rattle.engine.proofs.fill.fill.Tie as tie
@@ -27,14 +23,20 @@ greedy-requires c κs = search needs
 loop-holds : tie.Need-loop-holds Inv-loop μ-loop
 loop-holds c = c .greedy .ensures
 
-bundles-requires : tie.Need-bundles-requires Inv-loop μ-loop
-bundles-requires c κs = search needs
-
 pool-requires : tie.Need-pool-requires Inv-loop μ-loop
 pool-requires c κs = search needs
 
+worthless-requires : tie.Need-worthless-requires Inv-loop μ-loop
+worthless-requires c κs = search needs
+
+returns : tie.Need-returns Inv-loop μ-loop
+returns c = worthless-full _ _ _ (c .before .before .before .loop .inv) (c .before .before .pool .ensures) (c .before .worthless .ensures (c .if1 .taken))
+
+bundles-requires : tie.Need-bundles-requires Inv-loop μ-loop
+bundles-requires c κs = search needs
+
 search-requires : tie.Need-search-requires Inv-loop μ-loop
-search-requires c κs = ready-of _ _ _ (c .before .before .before .loop .inv) (c .before .bundles .ensures)
+search-requires c κs = ready-of _ _ _ (c .before .before .before .before .before .loop .inv) (c .bundles .ensures)
 
 all-below-requires-2 : tie.Need-all-below-requires-2 Inv-loop μ-loop
 all-below-requires-2 c κs = search needs
@@ -42,29 +44,23 @@ all-below-requires-2 c κs = search needs
 minus-requires : tie.Need-minus-requires Inv-loop μ-loop
 minus-requires c κs = search needs
 
-returns : tie.Need-returns Inv-loop μ-loop
-returns c = fill-done _ _ (c .before .before .before .before .before .before .before .before .before .loop .inv) _ _ (c .before .before .before .before .before .before .before .before .before .before .before .all-below .ensures) (c .before .before .before .before .before .before .pool .ensures) _ (c .before .before .before .before .before .search .ensures) (not-true _ (c .before .before .if1 .taken)) _ _ (c .before .all-below2 .ensures) (c .minus .ensures)
+returns-2 : tie.Need-returns-2 Inv-loop μ-loop
+returns-2 c = fill-done _ _ (c .before .before .before .before .before .before .before .before .before .before .before .loop .inv) _ _ (c .before .before .before .before .before .before .before .before .before .before .before .before .before .all-below .ensures) (c .before .before .before .before .before .before .before .before .before .before .pool .ensures) _ (c .before .before .before .before .before .search .ensures) (not-true _ (c .before .before .if2 .taken)) _ _ (c .before .all-below2 .ensures) (c .minus .ensures)
 
 moves-back-requires : tie.Need-moves-back-requires Inv-loop μ-loop
-moves-back-requires c κs = let f = c .before .before .before .search .ensures .found (not-false _ (c .if1 .left)) in let b = f .0 .traced .below (c .before .before .before .search .result .end) (f .1) in omega (arith, c .before .before .before .before .before .before .before .before .before .before .pre .small)
+moves-back-requires c κs =
+    let f = c .before .before .before .search .ensures .found (not-false _ (c .if2 .left)) in
+    let b = f .0 .traced .below (c .before .before .before .search .result .end) (f .1) in
+    omega (arith, c .before .before .before .before .before .before .before .before .before .before .before .before .pre .small)
 
 chain-requires : tie.Need-chain-requires Inv-loop μ-loop
 chain-requires c κs = search needs
 
 loop-less : tie.Need-loop-less Inv-loop μ-loop
-loop-less c =
-    let f = c .before .before .before .before .before .search .ensures .found (not-false _ (c .before .before .if1 .left)) in
-    let zero : 0 < c .before .before .before .before .before .before .before .before .before .before .before .before .args .s .n = omega (arith, c .before .before .before .before .before .before .before .before .before .before .before .before .pre .some) in
-    let a : Advanced (c .before .before .before .before .before .before .before .before .before .before .before .before .args .s) (c .before .before .before .before .before .before .before .before .before .loop .h) (c .before .before .before .before .before .before .before .before .before .before .before .all-below .result) (c .before .before .before .before .before .search .result .end) (c .chain .result) = rw (c .chain .ensures) (advances _ _ (c .before .before .before .before .before .before .before .before .before .loop .inv) _ _ _ (f .0) (f .1) _ (c .before .moves-back .ensures) 0 zero (subst⁻¹ T (c .before .before .before .before .before .before .before .before .before .before .before .all-below .ensures 0) (lt→ltb 0 _ zero))) in
-    let more = given-more (c .before .before .before .before .before .before .before .before .before .before .before .before .args .s) (c .before .before .before .before .before .before .before .before .before .loop .h) (c .chain .result) _ _ a (pool-end _ _ (c .before .before .before .before .before .before .before .before .before .loop .inv) _ _ (c .before .before .before .before .before .before .before .before .before .before .before .all-below .ensures) (c .before .before .before .before .before .before .pool .ensures) _ (c .before .before .before .before .before .search .ensures) (f .2)) in
-    let most = given-le (c .before .before .before .before .before .before .before .before .before .before .before .before .args .s) (c .chain .result .owner) in
-    omega arith
+loop-less c = fill-less _ _ (c .before .before .before .before .before .before .before .before .before .before .before .loop .inv) _ _ (c .before .before .before .before .before .before .before .before .before .before .before .before .before .all-below .ensures) (c .before .before .before .before .before .before .before .before .before .before .pool .ensures) _ (c .before .before .before .before .before .search .ensures) (c .before .before .before .before .before .before .before .before .before .before .before .before .before .before .pre .some) (not-false _ (c .before .before .if2 .left)) _ (c .before .moves-back .ensures) _ (c .chain .ensures)
 
 loop-again : tie.Need-loop-again Inv-loop μ-loop
-loop-again c =
-    let f = c .before .before .before .before .before .search .ensures .found (not-false _ (c .before .before .if1 .left)) in
-    let zero : 0 < c .before .before .before .before .before .before .before .before .before .before .before .before .args .s .n = omega (arith, c .before .before .before .before .before .before .before .before .before .before .before .before .pre .some) in
-    rw (c .chain .ensures) (advances _ _ (c .before .before .before .before .before .before .before .before .before .loop .inv) _ _ _ (f .0) (f .1) _ (c .before .moves-back .ensures) 0 zero (subst⁻¹ T (c .before .before .before .before .before .before .before .before .before .before .before .all-below .ensures 0) (lt→ltb 0 _ zero)) .held)
+loop-again c = fill-held _ _ (c .before .before .before .before .before .before .before .before .before .before .before .loop .inv) _ _ (c .before .before .before .before .before .before .before .before .before .before .before .before .before .all-below .ensures) (c .before .before .before .before .before .before .before .before .before .before .pool .ensures) _ (c .before .before .before .before .before .search .ensures) (c .before .before .before .before .before .before .before .before .before .before .before .before .before .before .pre .some) (not-false _ (c .before .before .if2 .left)) _ (c .before .moves-back .ensures) _ (c .chain .ensures)
 
 pub fill-spec : {M : Type 1} → statement M
 fill-spec =
@@ -75,12 +71,14 @@ fill-spec =
     all-below-requires
     greedy-requires
     loop-holds
-    bundles-requires
     pool-requires
+    worthless-requires
+    returns
+    bundles-requires
     search-requires
     all-below-requires-2
     minus-requires
-    returns
+    returns-2
     moves-back-requires
     chain-requires
     loop-less

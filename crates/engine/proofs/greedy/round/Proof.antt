@@ -2,25 +2,32 @@ use Prim.Native.Nat.{_≤_, _-_}
 use mathlib.Core.Path.{refl}
 use native.Mathlib.Omega.{arith}
 use Rattle.exchange.proofs.Words.{theAgents}
-use Rattle.engine.proofs.Greedily.{Turn, turn-first, offered, turn-next}
+use Rattle.engine.proofs.Greedily.{Turn, turn-first, turn-next}
 use borrow.Author.Needs.{needs}
 use Rattle.engine.proofs.greedy.round.Statement.{statement}
 use Rattle.engine.proofs.greedy.round.Tie as tie
 
 abbrev Inv-loop : tie.InvT-loop
-Inv-loop most m n valuations words h₀ pool₀ t₀ h pool t = (t ≤ n) × Turn (theAgents m n valuations) t h words pool
+Inv-loop most m n valuations quotas pool₀ words owner₀ next₀ t₀ pool owner next t = (t ≤ n) × Turn (theAgents m n valuations) t owner words pool
 
 abbrev μ-loop : tie.MeasureT-loop
-μ-loop most m n valuations words h₀ pool₀ t₀ h pool t = n - t
-
-bundles-requires : tie.Need-bundles-requires Inv-loop μ-loop
-bundles-requires c κs = search needs
+μ-loop most m n valuations quotas pool₀ words owner₀ next₀ t₀ pool owner next t = n - t
 
 pool-requires : tie.Need-pool-requires Inv-loop μ-loop
 pool-requires c κs = search needs
 
+lowest-requires : tie.Need-lowest-requires Inv-loop μ-loop
+lowest-requires c κs = search needs
+
+returns : tie.Need-returns Inv-loop μ-loop
+returns c = search needs
+
+bundles-requires : tie.Need-bundles-requires Inv-loop μ-loop
+bundles-requires c κs = search needs
+
 loop-holds : tie.Need-loop-holds Inv-loop μ-loop
-loop-holds c = (search needs, turn-first _ _ _ _ (c .before .before .before .pre) (c .before .bundles .ensures) (c .pool .ensures))
+loop-holds c =
+    (search needs, turn-first _ _ _ _ (c .before .before .before .before .before .before .before .before .pre) (c .before .bundles .ensures) (c .before .before .before .before .pool .ensures))
 
 mul-v : tie.Need-mul-v Inv-loop μ-loop
 mul-v c = omega (arith, c .before .loop .inv .1 .held .few)
@@ -34,17 +41,38 @@ mul-bundle c = omega (arith, c .before .before .loop .inv .1 .held .few)
 array-read-bundle : tie.Need-array-read-bundle Inv-loop μ-loop
 array-read-bundle c = omega (arith, c .before .before .loop .inv .1 .held .few)
 
+array-read-quota : tie.Need-array-read-quota Inv-loop μ-loop
+array-read-quota c = omega (arith, c .before .before .loop .inv .1 .held .few)
+
+wide-requires : tie.Need-wide-requires Inv-loop μ-loop
+wide-requires c κs = search needs
+
 grown-requires : tie.Need-grown-requires Inv-loop μ-loop
-grown-requires c κs = c .before .before .loop .inv .1 .held .small
+grown-requires c κs = c .before .before .before .loop .inv .1 .held .small
 
 minus-requires : tie.Need-minus-requires Inv-loop μ-loop
 minus-requires c κs = search needs
 
-handed-requires : tie.Need-handed-requires Inv-loop μ-loop
-handed-requires c κs = offered _ _ _ _ _ (c .before .before .before .before .loop .inv .1) (c .before .before .before .loop-test .taken) _ _ refl _ _ _ (c .before .grown .ensures) (c .minus .ensures)
+cast-assign : tie.Need-cast-assign Inv-loop μ-loop
+cast-assign c = omega (arith, c .before .before .before .before .before .before .loop .inv .1 .held .few)
+
+assign-requires : tie.Need-assign-requires Inv-loop μ-loop
+assign-requires c κs = c .before .before .before .before .before .before .loop .inv .1 .held .owner-long
 
 minus-requires-2 : tie.Need-minus-requires-2 Inv-loop μ-loop
 minus-requires-2 c κs = search needs
+
+size-requires : tie.Need-size-requires Inv-loop μ-loop
+size-requires c κs = search needs
+
+wide-requires-2 : tie.Need-wide-requires-2 Inv-loop μ-loop
+wide-requires-2 c κs = search needs
+
+sub-next : tie.Need-sub-next Inv-loop μ-loop
+sub-next c = search needs
+
+array-write-next : tie.Need-array-write-next Inv-loop μ-loop
+array-write-next c = omega (arith, c .before .before .before .before .before .before .before .before .before .before .before .before .loop .inv .1 .held .few)
 
 add-t : tie.Need-add-t Inv-loop μ-loop
 add-t c = search needs
@@ -53,10 +81,13 @@ loop-less : tie.Need-loop-less Inv-loop μ-loop
 loop-less c = search needs
 
 loop-again : tie.Need-loop-again Inv-loop μ-loop
-loop-again c = (search needs, turn-next _ _ _ _ _ (c .before .before .before .before .before .before .loop .inv .1) (c .before .before .before .before .before .loop-test .taken) _ _ refl _ _ _ (c .before .before .before .grown .ensures) (c .before .before .minus .ensures) _ (c .before .handed .ensures) _ (c .minus2 .ensures))
+loop-again c = (
+  search needs,
+  turn-next _ _ _ _ _ (c .before .before .before .before .before .before .before .before .before .loop .inv .1) (c .before .before .before .before .before .before .before .before .loop-test .taken) _ _ refl _ _ _ (c .before .before .before .before .before .grown .ensures) (c .before .before .before .before .minus .ensures) _ (c .before .before .assign .ensures) _ (c .before .minus2 .ensures),
+)
 
-returns : tie.Need-returns Inv-loop μ-loop
-returns c = c .before .loop .inv .1 .held
+returns-2 : tie.Need-returns-2 Inv-loop μ-loop
+returns-2 c = c .before .loop .inv .1 .held
 
 pub round-spec : {M : Type 1} → statement M
 round-spec =
@@ -64,18 +95,27 @@ round-spec =
     (tie.spec
     Inv-loop
     μ-loop
-    bundles-requires
     pool-requires
+    lowest-requires
+    returns
+    bundles-requires
     loop-holds
     mul-v
     array-copy-out-v
     mul-bundle
     array-read-bundle
+    array-read-quota
+    wide-requires
     grown-requires
     minus-requires
-    handed-requires
+    cast-assign
+    assign-requires
     minus-requires-2
+    size-requires
+    wide-requires-2
+    sub-next
+    array-write-next
     add-t
     loop-less
     loop-again
-    returns)
+    returns-2)

@@ -1,4 +1,4 @@
-use Prim.Native.Nat.{_≤_, _-_}
+use Prim.Native.Nat.{_≤_, _<_, _-_}
 use mathlib.Core.Path.{_≡_}
 use mathlib.Core.Logic.{⊎-elim}
 use native.Mathlib.Omega.{arith}
@@ -8,10 +8,10 @@ use Rattle.engine.proofs.share.parts.Statement.{statement}
 use Rattle.engine.proofs.share.parts.Tie as tie
 
 abbrev Inv-loop : tie.InvT-loop
-Inv-loop n owner part₀ g₀ part g = (g ≤ 64) × Parting owner n g part
+Inv-loop m n owner part₀ g₀ part g = (g ≤ m) × Parting owner n g part
 
 abbrev μ-loop : tie.MeasureT-loop
-μ-loop n owner part₀ g₀ part g = 64 - g
+μ-loop m n owner part₀ g₀ part g = m - g
 
 loop-holds : tie.Need-loop-holds Inv-loop μ-loop
 loop-holds c = (search needs, parting-none _ _)
@@ -32,10 +32,12 @@ loop-less : tie.Need-loop-less Inv-loop μ-loop
 loop-less c = search needs
 
 loop-again : tie.Need-loop-again Inv-loop μ-loop
-loop-again c = (search needs, ⊎-elim (λ w. parting-agent _ _ _ (c .before .before .loop .part) _ (c .before .before .loop .inv .1) (c .before .loop-test .taken) (w .0 .taken) (w .1)) (λ w. parting-pool _ _ _ (c .before .before .loop .part) _ (c .before .before .loop .inv .1) (c .before .loop-test .taken) (w .0 .left) (w .1)) (c .if1 .came))
+loop-again c =
+    let l : c .before .before .loop .g < 64 = omega (arith, c .before .loop-test .taken, c .before .before .before .pre) in
+    (search needs, ⊎-elim (λ w. parting-agent _ _ _ (c .before .before .loop .part) _ (c .before .before .loop .inv .1) l (w .0 .taken) (w .1)) (λ w. parting-pool _ _ _ (c .before .before .loop .part) _ (c .before .before .loop .inv .1) l (w .0 .left) (w .1)) (c .if1 .came))
 
 returns : tie.Need-returns Inv-loop μ-loop
-returns c = let e : c .before .loop .g ≡ 64 = omega arith in rw e at (c .before .loop .inv .1 .is)
+returns c = let e : c .before .loop .g ≡ c .before .before .args .m = omega arith in rw e at (c .before .loop .inv .1 .is)
 
 pub parts-spec : {M : Type 1} → statement M
 parts-spec =

@@ -5,7 +5,7 @@ use mathlib.Core.List.{List}
 use mathlib.Core.Logic.{⊎-elim}
 use native.Mathlib.Omega.{arith}
 use lib.Dec.{T}
-use lib.ListN.{getD, getD-replicate}
+use lib.ListN.{length, getD, getD-replicate}
 use Rattle.matroid.specs.Breadth.{Rooted}
 use Rattle.matroid.proofs.Waves.{rooted-none, rooted-skip}
 use Rattle.sets.specs.Bits.{bit}
@@ -17,13 +17,13 @@ use Rattle.exchange.proofs.search.roots.Statement.{statement}
 use Rattle.exchange.proofs.search.roots.Tie as tie
 
 abbrev Inv-loop : tie.InvT-loop
-Inv-loop sources bundles m n valuations seen₀ to₀ t₀ seen to t = (t ≤ n) × ((owner : List ℕ) → Ready (theAgents m n valuations) owner bundles → Rooted n (agentMatroid (theAgents m n valuations)) (holder owner) (bit sources) t (bit seen) (λ x. getD to x 0))
+Inv-loop sources bundles m n valuations seen₀ to₀ t₀ seen to t = (t ≤ n) × (length to ≡ 64) × ((owner : List ℕ) → Ready (theAgents m n valuations) owner bundles → Rooted n (agentMatroid (theAgents m n valuations)) (holder owner) (bit sources) t (bit seen) (λ x. getD to x 0))
 
 abbrev μ-loop : tie.MeasureT-loop
 μ-loop sources bundles m n valuations seen₀ to₀ t₀ seen to t = n - t
 
 loop-holds : tie.Need-loop-holds Inv-loop μ-loop
-loop-holds c = (search needs, λ owner ready. rooted-none _ _ _ _ _ _ none-there)
+loop-holds c = (search needs, refl, λ owner ready. rooted-none _ _ _ _ _ _ none-there)
 
 member-requires : tie.Need-member-requires Inv-loop μ-loop
 member-requires c κs = search needs
@@ -46,11 +46,11 @@ gains-of-requires c κs = c .before .before .before .before .before .before .pre
 minus-requires : tie.Need-minus-requires Inv-loop μ-loop
 minus-requires c κs = search needs
 
-cast-assigned : tie.Need-cast-assigned Inv-loop μ-loop
-cast-assigned c = omega (arith, c .before .before .before .before .before .before .before .before .pre .1)
+cast-assign : tie.Need-cast-assign Inv-loop μ-loop
+cast-assign c = omega (arith, c .before .before .before .before .before .before .before .before .before .pre .1)
 
-assigned-requires : tie.Need-assigned-requires Inv-loop μ-loop
-assigned-requires c κs = search needs
+assign-requires : tie.Need-assign-requires Inv-loop μ-loop
+assign-requires c κs = c .before .before .before .before .before .before .before .loop .inv .1
 
 either-requires : tie.Need-either-requires Inv-loop μ-loop
 either-requires c κs = search needs
@@ -64,15 +64,16 @@ loop-less c = search needs
 loop-again : tie.Need-loop-again Inv-loop μ-loop
 loop-again c = (
   search needs,
+  ⊎-elim (λ w. rw (w .8) (w .5 .ensures .long ∙ c .before .before .before .loop .inv .1)) (λ w. rw (w .2) (c .before .before .before .loop .inv .1)) (c .if1 .came),
   λ owner ready. ⊎-elim
-      (λ w. rw (w .6, w .7) (roots-take (c .before .before .before .before .before .args .s) owner _ ready _ _ _ _ _ _ (c .before .before .before .loop .to) (w .4 .result) _ _ (c .before .before .loop-test .taken) (ready .valuations-long) refl (c .before .before .before .loop .inv .1 owner ready)
-      (sym (c .before .member .ensures) ∙ w .0 .taken) (w .2 .ensures) (w .3 .ensures) (w .4 .ensures) (w .5 .ensures)))
-      (λ w. rw (w .1, w .2) (rooted-skip _ _ _ _ _ _ _ (c .before .before .before .loop .inv .1 owner ready) (subst⁻¹ (λ (b : Bool). T (not b)) (sym (c .before .member .ensures) ∙ w .0 .left) tt)))
+      (λ w. rw (w .7, w .8) (roots-take (c .before .before .before .before .before .args .s) owner _ ready _ _ _ _ _ _ (c .before .before .before .loop .to) (w .5 .last .0) _ _ (c .before .before .loop-test .taken) (ready .valuations-long) refl (c .before .before .before .loop .inv .2 owner ready)
+      (sym (c .before .member .ensures) ∙ w .0 .taken) (w .2 .ensures) (w .3 .ensures) (w .5 .ensures) (w .6 .ensures)))
+      (λ w. rw (w .1, w .2) (rooted-skip _ _ _ _ _ _ _ (c .before .before .before .loop .inv .2 owner ready) (subst⁻¹ (λ (b : Bool). T (not b)) (sym (c .before .member .ensures) ∙ w .0 .left) tt)))
       (c .if1 .came),
 )
 
 returns : tie.Need-returns Inv-loop μ-loop
-returns c = let e : c .before .loop .t ≡ c .before .before .before .args .s .n = omega arith in λ owner ready. record { rooted = rw e at (c .before .loop .inv .1 owner ready); apart = λ x l. getD-replicate 64 x 255 0 l }
+returns c = let e : c .before .loop .t ≡ c .before .before .before .args .s .n = omega arith in λ owner ready. record { rooted = rw e at (c .before .loop .inv .2 owner ready); apart = λ x l. getD-replicate 64 x 255 0 l }
 
 pub roots-spec : {M : Type 1} → statement M
 roots-spec =
@@ -88,8 +89,8 @@ roots-spec =
     array-read-gains-of
     gains-of-requires
     minus-requires
-    cast-assigned
-    assigned-requires
+    cast-assign
+    assign-requires
     either-requires
     add-t
     loop-less

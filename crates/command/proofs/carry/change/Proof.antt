@@ -1,0 +1,139 @@
+use Rattle.command.specs.Carry.{changedTeam}
+use borrow.Author.Needs.{needs}
+use Rattle.command.proofs.carry.change.Statement.{statement}
+use Rattle.command.proofs.carry.change.Tie as tie
+
+enum-told : tie.Need-enum-told
+enum-told c = search needs
+
+enum-told-2 : tie.Need-enum-told-2
+enum-told-2 c = search needs
+
+enum-told-3 : tie.Need-enum-told-3
+enum-told-3 c = search needs
+
+enum-told-4 : tie.Need-enum-told-4
+enum-told-4 c = search needs
+
+enum-known-command : tie.Need-enum-known-command
+enum-known-command c = search needs
+
+open-requires : tie.Need-open-requires
+open-requires c κs = search needs
+
+enum-known-command-2 : tie.Need-enum-known-command-2
+enum-known-command-2 c = search needs
+
+open-requires-2 : tie.Need-open-requires-2
+open-requires-2 c κs = search needs
+
+enum-known-command-3 : tie.Need-enum-known-command-3
+enum-known-command-3 c = search needs
+
+set-cap-requires : tie.Need-set-cap-requires
+set-cap-requires c κs = search needs
+
+enum-known-command-4 : tie.Need-enum-known-command-4
+enum-known-command-4 c = search needs
+
+set-class-requires : tie.Need-set-class-requires
+set-class-requires c κs = search needs
+
+enum-known-command-5 : tie.Need-enum-known-command-5
+enum-known-command-5 c = search needs
+
+set-span-requires : tie.Need-set-span-requires
+set-span-requires c κs = search needs
+
+enum-told-5 : tie.Need-enum-told-5
+enum-told-5 c = search needs
+
+returns : tie.Need-returns
+unfolding changedTeam
+returns c = rw (c .enum-told .given .1)
+
+returns-2 : tie.Need-returns-2
+unfolding changedTeam
+returns-2 c = rw (c .enum-told2 .given .1)
+
+returns-3 : tie.Need-returns-3
+unfolding changedTeam
+returns-3 c = rw (c .enum-told3 .given .1)
+
+returns-4 : tie.Need-returns-4
+unfolding changedTeam
+returns-4 c = rw (c .enum-told4 .given .1)
+
+same-length : tie.Need-same-length
+same-length c = search needs
+
+returns-5 : tie.Need-returns-5
+unfolding changedTeam
+returns-5 c = rw (c .before .before .before .before .before .command .given .1) (c .before .before .«open» .ensures)
+
+same-length-2 : tie.Need-same-length-2
+same-length-2 c = search needs
+
+returns-6 : tie.Need-returns-6
+unfolding changedTeam
+returns-6 c = rw (c .before .before .before .before .before .command2 .given .1) (c .before .before .open2 .ensures)
+
+same-length-3 : tie.Need-same-length-3
+same-length-3 c = search needs
+
+returns-7 : tie.Need-returns-7
+unfolding changedTeam
+returns-7 c = rw (c .before .before .before .before .before .command3 .given .1) (c .before .before .set-cap .ensures)
+
+same-length-4 : tie.Need-same-length-4
+same-length-4 c = search needs
+
+returns-8 : tie.Need-returns-8
+unfolding changedTeam
+returns-8 c = rw (c .before .before .before .before .before .command4 .given .1) (c .before .before .set-class .ensures)
+
+same-length-5 : tie.Need-same-length-5
+same-length-5 c = search needs
+
+returns-9 : tie.Need-returns-9
+unfolding changedTeam
+returns-9 c = rw (c .before .before .before .before .before .command5 .given .1) (c .before .before .set-span .ensures)
+
+returns-10 : tie.Need-returns-10
+unfolding changedTeam
+returns-10 c = rw (c .enum-told5 .given .1)
+
+pub change-spec : {M : Type 1} → statement M
+change-spec =
+    tie.close
+    (tie.spec
+    enum-told
+    enum-told-2
+    enum-told-3
+    enum-told-4
+    enum-known-command
+    open-requires
+    enum-known-command-2
+    open-requires-2
+    enum-known-command-3
+    set-cap-requires
+    enum-known-command-4
+    set-class-requires
+    enum-known-command-5
+    set-span-requires
+    enum-told-5
+    returns
+    returns-2
+    returns-3
+    returns-4
+    same-length
+    returns-5
+    same-length-2
+    returns-6
+    same-length-3
+    returns-7
+    same-length-4
+    returns-8
+    same-length-5
+    returns-9
+    returns-10)

@@ -1,0 +1,77 @@
+// A team as a row of 210 bytes, so that a command changes the open team where it stands: its kind, its channels, the cap of each class, then
+// of each instrument its class and its two joints.
+ghost use mathlib.Core.Path.{_≡_};
+ghost use Prim.Native.Nat.{_+_, _≤_};
+ghost use lib.ListN.{length};
+ghost use Rattle.command.specs.Carry.{opened};
+ghost use Rattle.command.specs.Row.{part, rowTeam, Filled};
+use team::Team;
+
+// How many bytes a row has.
+pub const WIDTH: usize = 210;
+
+// Where the caps of the classes begin.
+pub const CAP: usize = 2;
+
+// Where the classes of the instruments begin.
+pub const CLASS: usize = 18;
+
+// Where the first joints of the instruments begin.
+pub const FIRST: usize = 82;
+
+// Where the second joints of the instruments begin.
+pub const SECOND: usize = 146;
+
+// Writes a byte from one offset up to another.
+fn fill(row: &mut [u8], from: usize, to: usize, byte: u8)
+    requires { ⌜ (from ≤ to) × (to ≤ length (now row)) ⌝ }
+    ensures { λ _. ⌜ Filled (now (row .entry)) from to byte (now (row .exit)) ⌝ }
+{
+    for i in from..to {
+        row[i] = byte;
+    }
+}
+
+// A team that has just been opened, with one cap for each class.
+pub fn open(row: &mut [u8], kind: u8, channels: u8, cap: u8)
+    requires { ⌜ length (now row) ≡ 210 ⌝ }
+    ensures { λ _. ⌜ rowTeam (now (row .exit)) ≡ opened kind channels cap ⌝ }
+{
+    row[0] = kind;
+    row[1] = channels;
+    fill(row, CAP, CLASS, cap);
+    fill(row, CLASS, WIDTH, 255);
+}
+
+// Copies the bytes from an offset on into a table.
+fn copy(row: &[u8], at: usize, table: &mut [u8])
+    requires { ⌜ at + length (now table) ≤ length (now row) ⌝ }
+    ensures { λ _. ⌜ now (table .exit) ≡ part (now (row .entry)) at (length (now (table .entry))) ⌝ }
+{
+    for i in 0..table.len() {
+        table[i] = row[at + i];
+    }
+}
+
+// The team of a row.
+pub fn team(row: &[u8]) -> Team
+    requires { ⌜ length (now row) ≡ 210 ⌝ }
+    ensures { λ r. ⌜ r ≡ rowTeam (now (row .entry)) ⌝ }
+{
+    let mut cap = [0u8; 16];
+    let mut class = [0u8; 64];
+    let mut first = [0u8; 64];
+    let mut second = [0u8; 64];
+    copy(row, CAP, &mut cap);
+    copy(row, CLASS, &mut class);
+    copy(row, FIRST, &mut first);
+    copy(row, SECOND, &mut second);
+    Team {
+        kind: row[0],
+        channels: row[1],
+        cap,
+        class,
+        first,
+        second,
+    }
+}

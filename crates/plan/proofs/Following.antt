@@ -1,0 +1,79 @@
+-- One command followed: the ways out of `follow`.
+use Prim.Native.Nat.{ℕ, _+_, _-_, _*_, _≤_}
+use mathlib.Core.Path.{_≡_, refl, sym, ap, _∙_, subst⁻¹}
+use mathlib.Core.Bool.{Bool, true, false, cond, true≢false}
+use mathlib.Core.Logic.{inl, inr, _≢_}
+use mathlib.Core.List.{List, _++_}
+use native.Mathlib.Omega.{arith}
+use lib.Dec.{leb}
+use lib.ListN.{length, take, drop}
+use borrow.Author.Tests.{eq-eqb, ne-eqb, leb-false}
+use Rattle.team.specs.declared.Team.{Team}
+use Rattle.command.specs.declared.Command.{Command}
+use Rattle.command.specs.declared.Command.the-variants.{Missing, Unknown, Short, Start, Caps, Loops, Class, Put, Span, End}
+use Rattle.command.specs.declared.State.{State}
+use Rattle.command.specs.Fault.{fault, isEnd}
+use Rattle.command.specs.Carry.{changedTeam, changedState}
+use Rattle.command.specs.Row.{rowTeam}
+use Rattle.plan.specs.Progress.{rowAt, Followed}
+use Rattle.plan.proofs.Rows.{lent, lent-length, row-lent, put-row, put-other}
+
+-- a thirteenth team is refused
+room : (n : ℕ) (b : Bool) → leb 12 n ≡ b → _≡_ {A = ℕ} (cond b 7 0) 0 → n + 1 ≤ 12
+room n true t e = absurd (omega arith)
+room n false t e = let h = leb-false 12 n t in omega arith
+
+pub few-teams : (at : ℕ) (s : State) (team : Team) (command : Command) → s .n ≤ 12 → fault at s team command ≡ 0 → changedState s command .n ≤ 12
+unfolding fault changedState
+few-teams at s team Missing l e = l
+few-teams at s team Unknown l e = l
+few-teams at s team Short l e = l
+few-teams at s team (Start version m) l e = l
+few-teams at s team (Caps channels) l e = room (s .n) (leb 12 (s .n)) refl e
+few-teams at s team (Loops channels) l e = room (s .n) (leb 12 (s .n)) refl e
+few-teams at s team (Class class most) l e = l
+few-teams at s team (Put instrument class) l e = l
+few-teams at s team (Span instrument a b) l e = l
+few-teams at s team End l e = l
+
+module _ (rows : List ℕ) (at : ℕ) (s : State) (command : Command) (number : ℕ) (is : number ≡ fault at s (rowTeam (take (210 * s .n + 210 - 210 * s .n) (drop (210 * s .n) rows))) command) where
+  -- the rule that is broken, given the open team's row
+  number-is : number ≡ fault at s (rowAt rows (s .n)) command
+  number-is = is ∙ ap (λ (team : Team). fault at s team command) (row-lent rows (s .n))
+
+  pub follow-refused : number ≢ 0 → Followed rows at s command (record { s = s; stopped = true; fault = number; at = at }) rows
+  follow-refused d =
+      let e = number-is in
+      let d′ : fault at s (rowAt rows (s .n)) command ≢ 0 = λ z. d (e ∙ z) in
+      record {
+        is = rw (ne-eqb (fault at s (rowAt rows (s .n)) command) 0 d′) (ap (λ (k : ℕ). record { s = s; stopped = true; fault = k; at = at }) e);
+        row = λ f. absurd (true≢false f);
+        other = λ k l o. refl;
+      }
+
+  module _ (z : number ≡ 0) where
+    none : fault at s (rowAt rows (s .n)) command ≡ 0
+    none = sym number-is ∙ z
+
+    pub follow-few : s .n ≤ 12 → (next : State) → next ≡ changedState s command → next .n ≤ 12
+    follow-few l next same = subst⁻¹ (λ (x : State). x .n ≤ 12) same (few-teams at s (rowAt rows (s .n)) command l none)
+
+    pub follow-end : isEnd command ≡ true → Followed rows at s command (record { s = s; stopped = true; fault = 0; at = at }) rows
+    follow-end e = record {
+      is = rw (eq-eqb (fault at s (rowAt rows (s .n)) command) 0 none, e) refl;
+      row = λ f. absurd (true≢false f);
+      other = λ k l o. refl;
+    }
+
+    -- the row of the team that is then open was lent, changed and put back
+    pub follow-on : isEnd command ≡ false → length rows ≡ 2730 → s .n ≤ 12 → (next : State) → next ≡ changedState s command → (ys : List ℕ)
+        → length ys ≡ length (take (210 * next .n + 210 - 210 * next .n) (drop (210 * next .n) rows)) → rowTeam ys ≡ changedTeam (rowTeam (take (210 * next .n + 210 - 210 * next .n) (drop (210 * next .n) rows))) command
+        → Followed rows at s command (record { s = next; stopped = false; fault = 0; at = at }) (take (210 * next .n) rows ++ (ys ++ drop (210 * next .n + 210 - 210 * next .n) (drop (210 * next .n) rows)))
+    follow-on e long few next same ys wide changed =
+        let within = follow-few few next same in
+        let full = wide ∙ ap length (lent rows (next .n)) ∙ lent-length rows (next .n) long within in
+        record {
+          is = rw (eq-eqb (fault at s (rowAt rows (s .n)) command) 0 none, e) (ap (λ (x : State). record { s = x; stopped = false; fault = 0; at = at }) same);
+          row = λ f. put-row rows (next .n) long within ys full ∙ changed ∙ ap (λ (team : Team). changedTeam team command) (row-lent rows (next .n));
+          other = λ k l o. elim o [ inl t ↦ absurd (true≢false (sym t)) | inr d ↦ put-other rows (next .n) long within ys full k l d ];
+        }

@@ -1,0 +1,84 @@
+-- The table of rows that reading fills: one row changed, and the teams of its rows.
+use Prim.Native.Nat.{ℕ, _+_, _-_, _*_, _≤_, _<_}
+use mathlib.Core.Path.{_≡_, ap, _∙_}
+use mathlib.Core.List.{List, _++_}
+use mathlib.Core.Logic.{_≢_}
+use native.Mathlib.Omega.{arith}
+use native.Mathlib.Decide.{decLt}
+use lib.ListN.{length, getD, take, drop, length-append, length-take, length-drop, List·getD-append}
+use lib.Seq.{length-take-le, take-at, drop-at, getD-take, getD-drop, getD-append-add}
+use Rattle.command.specs.Row.{part, rowTeam}
+use Rattle.command.proofs.Rows.{part-at, part-length, part-is}
+use Rattle.plan.specs.Progress.{rowAt}
+
+-- so many bytes of the table, as the code lends them
+pub lent : (rows : List ℕ) (k : ℕ) → take (210 * k + 210 - 210 * k) (drop (210 * k) rows) ≡ part rows (210 * k) 210
+unfolding part
+lent rows k = let e : 210 * k + 210 - 210 * k ≡ 210 = omega arith in ap (λ (n : ℕ). take n (drop (210 * k) rows)) e
+
+pub lent-length : (rows : List ℕ) (k : ℕ) → length rows ≡ 2730 → k ≤ 12 → length (part rows (210 * k) 210) ≡ 210
+lent-length rows k long few = part-length rows (210 * k) 210 (omega arith)
+
+-- the team of a row that is lent
+pub row-lent : (rows : List ℕ) (k : ℕ) → rowTeam (take (210 * k + 210 - 210 * k) (drop (210 * k) rows)) ≡ rowAt rows k
+unfolding rowAt
+row-lent rows k = ap rowTeam (lent rows k)
+
+-- a part of a list that is put back, with as many entries as it had
+module _ (l : List ℕ) (at many : ℕ) (fits : at + many ≤ length l) (ys : List ℕ) (long : length ys ≡ many) where
+  abbrev put : List ℕ
+  put = take at l ++ (ys ++ drop many (drop at l))
+
+  front : length (take at l) ≡ at
+  front = length-take-le at l (omega arith)
+
+  put-length : length put ≡ length l
+  put-length = simp (length-append, length-take, length-drop) (omega arith)
+
+  -- the part, and what lies before and after it
+  put-part : part put at many ≡ ys
+  unfolding part
+  put-part = ap (take many) (drop-at (take at l) (ys ++ drop many (drop at l)) at front) ∙ take-at ys (drop many (drop at l)) many long
+
+  put-before : (i d : ℕ) → i < at → getD put i d ≡ getD l i d
+  put-before i d b = List·getD-append (take at l) (ys ++ drop many (drop at l)) d i (omega (arith, front)) ∙ getD-take at l i d b
+
+  put-after : (i d : ℕ) → at + many ≤ i → getD put i d ≡ getD l i d
+  put-after i d b =
+      let j = i - at - many in
+      let e : i ≡ length (take at l) + (length ys + j) = omega (arith, front) in
+      let e′ : at + (many + j) ≡ i = omega arith in
+      ap (λ (k : ℕ). getD put k d) e ∙ getD-append-add (take at l) (ys ++ drop many (drop at l)) (length ys + j) d ∙ getD-append-add ys (drop many (drop at l)) j d
+      ∙ getD-drop many (drop at l) j d ∙ getD-drop at l (many + j) d ∙ ap (λ (k : ℕ). getD l k d) e′
+
+-- one row of the table is put back
+module _ (rows : List ℕ) (k : ℕ) (long : length rows ≡ 2730) (few : k ≤ 12) (ys : List ℕ) (same : length ys ≡ 210) where
+  fits : 210 * k + 210 ≤ length rows
+  fits = omega arith
+
+  abbrev rows′ : List ℕ
+  rows′ = put rows (210 * k) 210 fits ys same
+
+  row-put : rowAt rows′ k ≡ rowTeam ys
+  unfolding rowAt
+  row-put = ap rowTeam (put-part rows (210 * k) 210 fits ys same)
+
+  row-kept : (j : ℕ) → j ≤ 12 → j ≢ k → rowAt rows′ j ≡ rowAt rows j
+  unfolding rowAt
+  row-kept j few′ other =
+      ap rowTeam (part-is rows (210 * j) 210 (part rows′ (210 * j) 210) (omega arith) (part-length rows′ (210 * j) 210 (omega (arith, put-length rows (210 * k) 210 fits ys same)))
+      (λ i b. part-at rows′ (210 * j) 210 i 0 b ∙ apart i b (decLt j k)))
+    where
+      apart : (i : ℕ) → i < 210 → Dec (j < k) → getD rows′ (210 * j + i) 0 ≡ getD rows (210 * j + i) 0
+      apart i b (yes l) = put-before rows (210 * k) 210 fits ys same (210 * j + i) 0 (omega arith)
+      apart i b (no l) = put-after rows (210 * k) 210 fits ys same (210 * j + i) 0 (omega arith)
+
+  -- the same, as the code puts it back
+  put-back : take (210 * k) rows ++ (ys ++ drop (210 * k + 210 - 210 * k) (drop (210 * k) rows)) ≡ rows′
+  put-back = let e : 210 * k + 210 - 210 * k ≡ 210 = omega arith in ap (λ (n : ℕ). take (210 * k) rows ++ (ys ++ drop n (drop (210 * k) rows))) e
+
+  pub put-row : rowAt (take (210 * k) rows ++ (ys ++ drop (210 * k + 210 - 210 * k) (drop (210 * k) rows))) k ≡ rowTeam ys
+  put-row = ap (λ (l : List ℕ). rowAt l k) put-back ∙ row-put
+
+  pub put-other : (j : ℕ) → j ≤ 12 → j ≢ k → rowAt (take (210 * k) rows ++ (ys ++ drop (210 * k + 210 - 210 * k) (drop (210 * k) rows))) j ≡ rowAt rows j
+  put-other j few′ other = ap (λ (l : List ℕ). rowAt l j) put-back ∙ row-kept j few′ other
