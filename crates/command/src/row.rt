@@ -53,25 +53,37 @@ fn copy(row: &[u8], at: usize, table: &mut [u8])
     }
 }
 
+// The caps of a row.
+fn caps(row: &[u8]) -> [u8; 16]
+    requires { ⌜ length (now row) ≡ 210 ⌝ }
+    ensures { λ r. ⌜ r ≡ part (now (row .entry)) 2 16 ⌝ }
+{
+    let mut caps = [0u8; 16];
+    copy(row, CAP, &mut caps);
+    caps
+}
+
+// The table of 64 bytes at an offset of a row.
+fn table(row: &[u8], at: usize) -> [u8; 64]
+    requires { ⌜ at + 64 ≤ length (now row) ⌝ }
+    ensures { λ r. ⌜ r ≡ part (now (row .entry)) at 64 ⌝ }
+{
+    let mut table = [0u8; 64];
+    copy(row, at, &mut table);
+    table
+}
+
 // The team of a row.
 pub fn team(row: &[u8]) -> Team
     requires { ⌜ length (now row) ≡ 210 ⌝ }
     ensures { λ r. ⌜ r ≡ rowTeam (now (row .entry)) ⌝ }
 {
-    let mut cap = [0u8; 16];
-    let mut class = [0u8; 64];
-    let mut first = [0u8; 64];
-    let mut second = [0u8; 64];
-    copy(row, CAP, &mut cap);
-    copy(row, CLASS, &mut class);
-    copy(row, FIRST, &mut first);
-    copy(row, SECOND, &mut second);
     Team {
         kind: row[0],
         channels: row[1],
-        cap,
-        class,
-        first,
-        second,
+        cap: caps(row),
+        class: table(row, CLASS),
+        first: table(row, FIRST),
+        second: table(row, SECOND),
     }
 }
