@@ -22,7 +22,7 @@ extern "C" {
 #endif
 
 /* The limits of plans, sheets and listings. */
-#define POOL_PLAN_MAX 3100
+#define POOL_PLAN_MAX 4636
 #define POOL_SHEET_MAX 2642
 #define POOL_LISTING_MAX 512
 #define POOL_INSTRUMENTS_MAX 64

@@ -12,7 +12,7 @@
  * has its first faulty command within these bytes, and Read's answer for them is its answer for the whole file.
  * A sheet of one byte more than the longest is as wrong as any longer one.
  */
-#define PLAN_READ_MAX 4096
+#define PLAN_READ_MAX 8192
 #define SHEET_READ_MAX (POOL_SHEET_MAX + 1)
 
 /* Bytes, their count, and for a file which file it is. */

@@ -2,29 +2,32 @@
 #include "plan.h"
 
 static const struct plan_form forms[] = {
-    [PLAN_START] = {"START", 2, {OPERAND_VERSION, OPERAND_COUNT}},
-    [PLAN_CAPS] = {"CAPS", 1, {OPERAND_CHANNELS}},
-    [PLAN_LOOPS] = {"LOOPS", 1, {OPERAND_CHANNELS}},
-    [PLAN_CLASS] = {"CLASS", 2, {OPERAND_CLASS, OPERAND_CAP}},
-    [PLAN_PUT] = {"PUT", 2, {OPERAND_INSTRUMENT, OPERAND_CLASS}},
-    [PLAN_SPAN] = {"SPAN", 3, {OPERAND_INSTRUMENT, OPERAND_JOINT, OPERAND_JOINT}},
-    [PLAN_END] = {.name = "END", .count = 0},
+    [PLAN_START] = {"START", 0, 2, 2, {OPERAND_VERSION, OPERAND_COUNT}},
+    [PLAN_CAPS] = {"CAPS", 0, 1, 1, {OPERAND_CHANNELS}},
+    [PLAN_LOOPS] = {"LOOPS", 0, 1, 1, {OPERAND_CHANNELS}},
+    [PLAN_CLASS] = {"CLASS", PLAN_CAPS, 2, 2, {OPERAND_CLASS, OPERAND_CAP}},
+    [PLAN_PUT] = {"PUT", PLAN_CAPS, 2, 2, {OPERAND_INSTRUMENT, OPERAND_CLASS}},
+    [PLAN_SPAN] = {"SPAN", PLAN_LOOPS, 3, 3, {OPERAND_INSTRUMENT, OPERAND_JOINT, OPERAND_JOINT}},
+    [PLAN_END] = {.name = "END", .size = 0, .count = 0},
+    [PLAN_MOUNTS] = {"MOUNTS", 0, 1, 1, {OPERAND_CHANNELS}},
+    [PLAN_FIT] = {"FIT", PLAN_MOUNTS, 5, 2, {OPERAND_INSTRUMENT, OPERAND_MOUNTS}},
 };
 
 static const struct plan_operand operands[] = {
-    [OPERAND_VERSION] = {"version", 1, 2},
-    [OPERAND_COUNT] = {"instruments", 0, POOL_INSTRUMENTS_MAX + 1},
-    [OPERAND_CHANNELS] = {"channels", 0, 256},
-    [OPERAND_CLASS] = {"class", 0, 16},
-    [OPERAND_CAP] = {"cap", 0, 256},
-    [OPERAND_INSTRUMENT] = {"instrument", 0, 0},
-    [OPERAND_JOINT] = {"joint", 0, 64},
+    [OPERAND_VERSION] = {"version", 1, 1, 2},
+    [OPERAND_COUNT] = {"instruments", 1, 0, POOL_INSTRUMENTS_MAX + 1},
+    [OPERAND_CHANNELS] = {"channels", 1, 0, 256},
+    [OPERAND_CLASS] = {"class", 1, 0, 16},
+    [OPERAND_CAP] = {"cap", 1, 0, 256},
+    [OPERAND_INSTRUMENT] = {"instrument", 1, 0, 0},
+    [OPERAND_JOINT] = {"joint", 1, 0, 64},
+    [OPERAND_MOUNTS] = {"mounts", 4, 0, UINT64_C(1) << 32},
 };
 
 /* The form of a command byte; null if it is no command. */
 const struct plan_form *plan_form(uint8_t byte)
 {
-    return byte >= PLAN_START && byte <= PLAN_END ? &forms[byte] : NULL;
+    return byte >= PLAN_START && byte <= PLAN_LAST ? &forms[byte] : NULL;
 }
 
 /* The name and values of an operand in this plan. */
@@ -33,8 +36,24 @@ struct plan_operand plan_operand(const struct content *plan, enum operand operan
     struct plan_operand answer = operands[operand];
 
     if (operand == OPERAND_INSTRUMENT)
-        answer.end = (unsigned)plan_instruments(plan);
+        answer.end = plan_instruments(plan);
     return answer;
+}
+
+/* The value of an operand's bytes, the low one first. */
+uint64_t plan_value(const uint8_t *bytes, size_t size)
+{
+    uint64_t value = 0;
+
+    while (size > 0)
+        value = value << 8 | bytes[--size];
+    return value;
+}
+
+/* Tells whether a command byte opens a team. */
+static bool opens_team(uint8_t byte)
+{
+    return byte == PLAN_CAPS || byte == PLAN_LOOPS || byte == PLAN_MOUNTS;
 }
 
 /* The first command of a plan. */
@@ -53,14 +72,14 @@ bool plan_next(const struct content *plan, struct plan_place *place)
         return false;
     byte = plan->at[place->offset];
     form = plan_form(byte);
-    if (form == NULL || plan->length - place->offset <= form->count)
+    if (form == NULL || plan->length - place->offset <= form->size)
         return false;
-    if (byte == PLAN_CAPS || byte == PLAN_LOOPS) {
+    if (opens_team(byte)) {
         place->teams++;
         place->team = place->offset;
     }
     place->previous = place->offset;
-    place->offset += 1 + form->count;
+    place->offset += 1 + form->size;
     place->number++;
     return true;
 }

@@ -12,7 +12,10 @@ enum plan_byte {
     PLAN_CLASS = 0x04,
     PLAN_PUT = 0x05,
     PLAN_SPAN = 0x06,
-    PLAN_END = 0x07
+    PLAN_END = 0x07,
+    PLAN_MOUNTS = 0x08,
+    PLAN_FIT = 0x09,
+    PLAN_LAST = PLAN_FIT
 };
 
 /* What an operand stands for. */
@@ -23,23 +26,27 @@ enum operand {
     OPERAND_CLASS,
     OPERAND_CAP,
     OPERAND_INSTRUMENT,
-    OPERAND_JOINT
+    OPERAND_JOINT,
+    OPERAND_MOUNTS
 };
 
 #define PLAN_OPERANDS_MAX 3
 
-/* A command's name and operands. */
+/* A command's name, the kind of team it belongs to, and its operands. */
 struct plan_form {
     const char *name;
-    size_t count;
+    uint8_t team; /* the command byte that opens such a team; 0 if it belongs to none */
+    size_t size;  /* of its operands, in bytes */
+    size_t count; /* of its operands */
     enum operand operands[PLAN_OPERANDS_MAX];
 };
 
-/* What an operand is called and which values it may have: from least up to, not including, end. */
+/* What an operand is called, its size in bytes, and which values it may have: from least up to, not including, end. */
 struct plan_operand {
     const char *name;
-    unsigned least;
-    unsigned end;
+    size_t size;
+    uint64_t least;
+    uint64_t end;
 };
 
 /* A command of a plan, and the team that is open there. */
@@ -56,6 +63,9 @@ const struct plan_form *plan_form(uint8_t byte);
 
 /* The name and values of an operand in this plan. */
 struct plan_operand plan_operand(const struct content *plan, enum operand operand);
+
+/* The value of an operand's bytes, the low one first. */
+uint64_t plan_value(const uint8_t *bytes, size_t size);
 
 /* The first command of a plan. */
 struct plan_place plan_first(void);

@@ -2,6 +2,8 @@
 #include "plan.h"
 #include "refusal.h"
 
+#include <inttypes.h>
+
 /* A refused plan and its faulty command. */
 struct fault {
     FILE *out;
@@ -21,8 +23,8 @@ static struct fault find_fault(FILE *out, const struct refusal *refusal)
     fault.size = fault.plan->length - fault.place.offset;
     if (fault.size > 0)
         fault.form = plan_form(fault.command[0]);
-    if (fault.form != NULL && fault.size > 1 + fault.form->count)
-        fault.size = 1 + fault.form->count;
+    if (fault.form != NULL && fault.size > 1 + fault.form->size)
+        fault.size = 1 + fault.form->size;
     return fault;
 }
 
@@ -54,26 +56,29 @@ static void print_no_end(const struct fault *fault)
             place->offset, place->number - 1, plan_form(fault->plan->at[place->previous])->name, place->previous);
 }
 
-/* 2 within a command: its operands are cut short. */
+/* 2 within a command: its operands are cut short. They are counted in bytes where one has several. */
 static void print_cut_short(const struct fault *fault)
 {
     print_command(fault);
-    fprintf(fault->out, "is cut short; it takes %zu operand%s, and the file ends after %zu.", fault->form->count,
-            fault->form->count == 1 ? "" : "s", fault->size - 1);
+    fprintf(fault->out, "is cut short; it takes %zu ", fault->form->size);
+    if (fault->form->size > fault->form->count)
+        fputs("bytes of operands", fault->out);
+    else
+        fputs(fault->form->count == 1 ? "operand" : "operands", fault->out);
+    fprintf(fault->out, ", and the file ends after %zu.", fault->size - 1);
 }
 
 /* 3: the byte is no command. */
 static void print_unknown(const struct fault *fault)
 {
-    fprintf(fault->out, "Command %zu of the plan, at byte %zu, is %02X, which is no command; commands are 01 to 07.",
-            fault->place.number, fault->place.offset, fault->command[0]);
+    fprintf(fault->out, "Command %zu of the plan, at byte %zu, is %02X, which is no command; commands are 01 to %02X.",
+            fault->place.number, fault->place.offset, fault->command[0], PLAN_LAST);
 }
 
-/* 4 for a command of a team: no team or the other kind of team is open. */
+/* 4 for a command of a team: no team or another kind of team is open. */
 static void print_wrong_team(const struct fault *fault)
 {
-    fprintf(fault->out, "is in the wrong place; it belongs to a %s team, and ",
-            fault->command[0] == PLAN_SPAN ? "LOOPS" : "CAPS");
+    fprintf(fault->out, "is in the wrong place; it belongs to a %s team, and ", plan_form(fault->form->team)->name);
     if (fault->place.teams == 0)
         fputs("no team is open.", fault->out);
     else
@@ -89,16 +94,18 @@ static void print_misplaced(const struct fault *fault)
         fputs("is a second START; START stands first and once.", fault->out);
     else if (fault->command[0] == PLAN_END)
         fprintf(fault->out, "ends a plan without teams; a plan has 1 to %d teams.", POOL_TEAMS_MAX);
-    else
+    else if (fault->form->team != 0)
         print_wrong_team(fault);
+    else
+        fputs("is in the wrong place.", fault->out);
 }
 
 /* 5 for an instrument: the plan does not have it. */
-static void print_no_instrument(const struct fault *fault, unsigned instrument)
+static void print_no_instrument(const struct fault *fault, uint64_t instrument)
 {
     size_t instruments = plan_instruments(fault->plan);
 
-    fprintf(fault->out, "has instrument %u; the plan has ", instrument);
+    fprintf(fault->out, "has instrument %" PRIu64 "; the plan has ", instrument);
     if (instruments == 0)
         fputs("no instruments.", fault->out);
     else
@@ -106,22 +113,25 @@ static void print_no_instrument(const struct fault *fault, unsigned instrument)
 }
 
 /* 5 for another operand: its name, its value and the values it may have. */
-static void print_wrong_value(const struct fault *fault, struct plan_operand operand, unsigned value)
+static void print_wrong_value(const struct fault *fault, struct plan_operand operand, uint64_t value)
 {
-    fprintf(fault->out, "has %s %u; allowed is %u", operand.name, value, operand.least);
+    fprintf(fault->out, "has %s %" PRIu64 "; allowed is %" PRIu64, operand.name, value, operand.least);
     if (operand.end - operand.least > 1)
-        fprintf(fault->out, " to %u", operand.end - 1);
+        fprintf(fault->out, " to %" PRIu64, operand.end - 1);
     fputs(".", fault->out);
 }
 
 /* 5: an operand is out of its range; the first such operand is named. */
 static void print_out_of_range(const struct fault *fault)
 {
+    const uint8_t *bytes = fault->command + 1;
+
     print_command(fault);
     for (size_t i = 0; i < fault->form->count; i++) {
         struct plan_operand operand = plan_operand(fault->plan, fault->form->operands[i]);
-        unsigned value = fault->command[i + 1];
+        uint64_t value = plan_value(bytes, operand.size);
 
+        bytes += operand.size;
         if (value >= operand.least && value < operand.end)
             continue;
         if (fault->form->operands[i] == OPERAND_INSTRUMENT)
@@ -203,7 +213,7 @@ bool refusal_print_plan(FILE *out, const struct refusal *refusal)
 
     if (fault.place.offset != refusal->place)
         return false;
-    if (fault.form != NULL && fault.size == 1 + fault.form->count && print_whole(&fault, refusal->number))
+    if (fault.form != NULL && fault.size == 1 + fault.form->size && print_whole(&fault, refusal->number))
         return true;
     if (refusal->number == 1)
         print_no_start(&fault);

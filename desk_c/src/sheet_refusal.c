@@ -41,20 +41,23 @@ static void print_wrong_byte(const struct subject *subject)
     fputs(".", subject->out);
 }
 
+/* What a team of a kind may hold, channels aside. */
+static const char *rule(uint8_t kind)
+{
+    if (kind == PLAN_CAPS)
+        return "A CAPS team may hold only instruments that were PUT, no more of a class than its cap";
+    if (kind == PLAN_LOOPS)
+        return "A LOOPS team may hold only instruments with a SPAN, none of which close a loop";
+    return "A MOUNTS team may hold only instruments with a FIT, each on a mount of its own that it fits";
+}
+
 /* 13: a team's bundle is not independent. */
 static void print_dependent(const struct subject *subject)
 {
     fprintf(subject->out, "Team %zu is given the instruments", subject->place);
     sheet_print_held(subject->out, subject->sheet, subject->shape, subject->place);
-    fputs(", which are not independent for it. ", subject->out);
-    if (plan_kind(subject->plan, subject->place) == PLAN_CAPS)
-        fputs("A CAPS team may hold only instruments that were PUT, no more of a class than its cap, "
-              "and no more than its channels.",
-              subject->out);
-    else
-        fputs("A LOOPS team may hold only instruments with a SPAN, none of which close a loop, "
-              "and no more than its channels.",
-              subject->out);
+    fprintf(subject->out, ", which are not independent for it. %s, and no more than its channels.",
+            rule(plan_kind(subject->plan, subject->place)));
 }
 
 /* 14: the total is not the number of given instruments or not what BOUND's set shows. */

@@ -19,6 +19,7 @@ listed zero.plan zero.sheet 34 "$listing_zero"
 listed some.plan some.sheet 102 "$listing_some"
 listed all.plan all.sheet 218 "$listing_all"
 listed longest.plan dealt.sheet 450 "$listing_dealt"
+listed rings.plan dealt.sheet 450 "$listing_dealt"
 
 # Tests that a refusal of Check comes first, whatever the buffer's length: not_listed PLAN SHEET NUMBER PLACE
 not_listed() {
@@ -40,6 +41,11 @@ not_listed_plan 3 3 01 01 02 00
 not_listed_plan 4 3 01 01 02 07
 not_listed_plan 5 5 01 01 02 02 01 05 02 00 07
 not_listed_plan 6 8 01 01 02 02 01 05 01 00 05 01 02 07
+not_listed_plan 2 5 01 01 02 08 01 09 00 01 00 00
+not_listed_plan 3 5 01 01 02 08 01 0A 00 01 00 00 00 07
+not_listed_plan 4 5 01 01 02 02 01 09 00 01 00 00 00 07
+not_listed_plan 5 5 01 01 02 08 01 09 02 01 00 00 00 07
+not_listed_plan 6 11 01 01 02 08 01 09 00 00 00 00 00 09 00 01 00 00 00 07
 not_listed_plan 7 27 01 01 02 02 01 02 01 02 01 02 01 02 01 02 01 02 01 02 01 02 01 02 01 02 01 02 01 03 05 07
 not_listed_plan 8 5 01 01 02 03 01 06 01 09 09 07
 not_listed_plan 9 6 01 01 02 02 01 07 00
@@ -57,5 +63,7 @@ not_listed_byte 9 00 13 0
 not_listed_byte 3 03 14 0
 not_listed_byte 39 00 15 1
 not_listed six.plan unfair.sheet 16 0
+patch mounts.sheet bad.sheet 9 00
+not_listed mounts.plan bad.sheet 13 0
 not_listed empty empty 1 0
 rm bad.sheet

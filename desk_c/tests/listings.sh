@@ -15,7 +15,8 @@ TEAM 9 SHARE 5 HOLDS 9 21 33 45 57
 TEAM 10 SHARE 5 HOLDS 10 22 34 46 58
 TEAM 11 SHARE 5 HOLDS 11 23 35 47 59
 POOL'
-expect 'listing of twelve teams and 64 instruments' 0 "$listing_dealt" '' "$desk" explain longest.plan dealt.sheet
+expect 'listing of twelve MOUNTS teams and 64 instruments' 0 "$listing_dealt" '' "$desk" explain longest.plan dealt.sheet
+expect 'listing of twelve LOOPS teams and 64 instruments' 0 "$listing_dealt" '' "$desk" explain rings.plan dealt.sheet
 
 numbers="0 1 2 3 4 5 6 7 8 9 10 11 12 13 14 15 16 17 18 19 20 21 22 23 24 25 26 27 28 29 30 31 \
 32 33 34 35 36 37 38 39 40 41 42 43 44 45 46 47 48 49 50 51 52 53 54 55 56 57 58 59 60 61 62 63"
@@ -59,7 +60,7 @@ same_listing() {
     "$desk" build "$1" built.sheet && "$desk" explain "$1" >plan.listing &&
         "$desk" explain "$1" built.sheet >sheet.listing && [ -s plan.listing ] && cmp -s plan.listing sheet.listing
 }
-for plan in a zero six longest most all some teams; do
+for plan in a zero six mounts fits longest rings most all some teams; do
     verdict "the listings of $plan.plan and of its sheet are the same" same_listing $plan.plan
 done
 

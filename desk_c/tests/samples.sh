@@ -27,15 +27,31 @@ sheet_six="11 06 02 06 12 00 00 12 01 01 12 02 00 12 03 01 12 04 00 12 05 01 $re
 # The same with {4,5} for team 0: a greatest total, but less than its share.
 unfair_six="11 06 02 06 12 00 01 12 01 01 12 02 01 12 03 01 12 04 00 12 05 00 $rest_six"
 
-# Prints the longest plan in hexadecimal: twelve LOOPS teams with the given channels, each with 64 gauges in a ring.
-longest_plan() {
+# Two instruments that fit mount 8 alone, and a sheet that gives 0 to the one team.
+plan_mounts='01 01 02 08 09 09 00 00 01 00 00 09 01 00 01 00 00 07'
+both='03 00 00 00 00 00 00 00'
+sheet_mounts="11 02 01 01 12 00 00 12 01 FF 13 $both 14 00 01 $both 15 00 00 15 01 00 16"
+
+# Prints a SPAN in hexadecimal: gauges in a ring of 64 joints.
+ring_span() {
+    printf ' 06 %02x %02x %02x' "$1" "$1" $((($1 + 1) % 64))
+}
+
+# Prints a FIT in hexadecimal: instruments on two neighbours in a ring of 32 mounts.
+ring_fit() {
+    mask=$((1 << $1 % 32 | 1 << ($1 + 1) % 32))
+    printf ' 09 %02x %02x %02x %02x %02x' "$1" $((mask & 255)) $((mask >> 8 & 255)) $((mask >> 16 & 255)) $((mask >> 24))
+}
+
+# Prints a plan of twelve teams and 64 instruments in hexadecimal: twelve_teams OPENING CHANNELS COMMAND
+twelve_teams() {
     printf '01 01 40'
     team=0
     while [ $team -lt 12 ]; do
-        printf ' 03 %s' "$1"
+        printf ' %s %s' "$1" "$2"
         gauge=0
         while [ $gauge -lt 64 ]; do
-            printf ' 06 %02x %02x %02x' $gauge $gauge $(((gauge + 1) % 64))
+            "$3" $gauge
             gauge=$((gauge + 1))
         done
         team=$((team + 1))
@@ -52,7 +68,7 @@ deal() {
     done
 }
 
-# Prints a sheet of the longest plan with six channels in hexadecimal: its GIVEs and every team's PARTs go in turn.
+# Prints a sheet of twelve teams with six channels in hexadecimal: its GIVEs and every team's PARTs go in turn.
 dealt_sheet() {
     printf '11 40 0C 40'
     deal 12
@@ -92,7 +108,10 @@ write_samples() {
     hex six.plan $plan_six
     hex six.sheet $sheet_six
     hex unfair.sheet $unfair_six
-    hex longest.plan $(longest_plan 06)
+    hex mounts.plan $plan_mounts
+    hex mounts.sheet $sheet_mounts
+    hex longest.plan $(twelve_teams 08 06 ring_fit)
+    hex rings.plan $(twelve_teams 03 06 ring_span)
     hex dealt.sheet $(dealt_sheet)
     hex some.plan $plan_some
     hex teams.plan $plan_teams

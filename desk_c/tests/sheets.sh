@@ -27,6 +27,10 @@ PART instrument 0 part 0
 PART instrument 1 part 0' '' from_input page - a.sheet 1
 quiet 'a sheet without instruments' "$desk" build zero.plan zero.sheet
 expect 'page without instruments' 0 'SHARE team 0 share 0 set' '' "$desk" page zero.plan zero.sheet 0
+expect 'a right sheet of a MOUNTS team is accepted' 0 ACCEPTED '' "$desk" check mounts.plan mounts.sheet
+expect 'page of a MOUNTS team' 0 'SHARE team 0 share 1 set 0 1
+PART instrument 0 part 0
+PART instrument 1 part 0' '' "$desk" page mounts.plan mounts.sheet 0
 
 # Tests a sheet with one byte changed: refused_byte OFFSET BYTE WORDS
 refused_byte() {
@@ -93,6 +97,10 @@ refused_byte 9 00 'REFUSED 13 0
 Team 0 is given the instruments 0 1, which are not independent for it. A LOOPS team may hold only instruments with a SPAN, none of which close a loop, and no more than its channels.'
 refused_byte 6 01 'REFUSED 13 1
 Team 1 is given the instruments 0 1, which are not independent for it. A CAPS team may hold only instruments that were PUT, no more of a class than its cap, and no more than its channels.'
+patch mounts.sheet bad.sheet 9 00
+refused_sheet 'two instruments on one mount' 'REFUSED 13 0
+Team 0 is given the instruments 0 1, which are not independent for it. A MOUNTS team may hold only instruments with a FIT, each on a mount of its own that it fits, and no more than its channels.' mounts.plan bad.sheet
+rm bad.sheet
 refused_byte 3 03 'REFUSED 14 0
 HEAD (byte 0) states the total 3, but the number of instruments given to teams is 2.'
 refused_byte 9 FF 'REFUSED 14 0

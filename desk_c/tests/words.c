@@ -6,7 +6,7 @@
 
 /* Numbers and places beyond all that the library can answer. */
 #define NUMBERS 20
-#define PLACES 4200
+#define PLACES 8300
 
 /* Prints every number with every place. */
 static void print_all(const struct content *plan, const struct content *sheet)

@@ -12,7 +12,7 @@ This program has no words for that number and place.' '' "$words" 5 1 a.plan -
 
 # Every number with every place, on right bytes and on wrong ones, is answered without a fault.
 answers_all() {
-    "$words" all all "$1" "$2" >all.out 2>all.err && [ ! -s all.err ] && [ "$(wc -l <all.out)" -eq 168000 ]
+    "$words" all all "$1" "$2" >all.out 2>all.err && [ ! -s all.err ] && [ "$(wc -l <all.out)" -eq 332000 ]
 }
 while read -r plan sheet; do
     verdict "all words for $plan and $sheet" answers_all "$plan" "$sheet"
@@ -21,6 +21,7 @@ a.plan a.sheet
 a.plan -
 six.plan unfair.sheet
 longest.plan longest.sheet
+mounts.plan mounts.sheet
 huge.plan huge.sheet
 empty empty
 bad.plan a.sheet

@@ -1,7 +1,7 @@
 //! Independence and worth word for word, for small sets.
 
 use crate::bits;
-use crate::plan::{Classes, Graph, Kind, Team, CLASSES, JOINTS};
+use crate::plan::{Bipartite, Classes, Graph, Kind, Team, CLASSES, JOINTS, MOUNTS};
 
 /// Independence: all named, the kind's own rule, and no more than the channels.
 pub fn independent(team: &Team, set: u64) -> bool {
@@ -9,6 +9,7 @@ pub fn independent(team: &Team, set: u64) -> bool {
     fits && match &team.kind {
         Kind::Caps(classes) => within_caps(classes, set),
         Kind::Loops(graph) => all_span(graph, set) && !closed_loop(graph, set),
+        Kind::Mounts(bipartite) => all_mounted(bipartite, set, 0),
     }
 }
 
@@ -76,4 +77,17 @@ impl Walk<'_> {
                 && self.closes(next, used | bits::one(item), seen | bits::one(place))
         })
     }
+}
+
+/// Whether every instrument of `set` can have a mount of its own that it fits, none of the
+/// taken ones: a search through all assignments, the instrument with the fewest mounts
+/// left first.
+pub fn all_mounted(bipartite: &Bipartite, set: u64, taken: u32) -> bool {
+    let left = |item: &usize| bipartite.fits[*item].unwrap_or(0) & !taken;
+    let Some(item) = bits::members(set).min_by_key(|item| left(item).count_ones()) else {
+        return true;
+    };
+    let rest = set & !bits::one(item);
+    let mut mounts = (0..MOUNTS).map(|mount| left(&item) & 1 << mount);
+    mounts.any(|mount| mount != 0 && all_mounted(bipartite, rest, taken | mount))
 }

@@ -1,4 +1,4 @@
-//! Named example plans: plan A and three weeks of growing size. In each of the weeks the
+//! Named example plans: plan A and four weeks of growing size. In each of the weeks the
 //! greatest total alone would leave some team below its share.
 
 use crate::writer::{plan_a, PlanWriter};
@@ -15,6 +15,7 @@ pub fn all() -> Vec<Example> {
     vec![
         example("plan-a", plan_a()),
         example("footbridge", footbridge()),
+        example("suspension", suspension()),
         example("tunnel", tunnel()),
         example("valley", valley()),
     ]
@@ -34,6 +35,25 @@ fn footbridge() -> Vec<u8> {
     for item in 0..10 {
         plan.put(item, u8::from(item >= 7));
     }
+    plan.end()
+}
+
+/// Three teams, 14 instruments of a suspension bridge: 0 to 5 measure tilt, 6 to 9
+/// acceleration, 10 to 13 the tension of hangers. A logger has three channels for each sort.
+/// The towers have two mounts on saddles, two on legs and one on the cross-beam; the hangers
+/// have three clamps for tension cells and two for accelerometers.
+fn suspension() -> Vec<u8> {
+    let mut plan = PlanWriter::start(14);
+    logger(&mut plan, &[(0..6, 3), (6..10, 3), (10..14, 3)], 9);
+    let towers = [(0..4, 0b00011), (4..6, 0b01100), (6..10, 0b10000)];
+    fitter(&mut plan, &towers, 6);
+    let hangers = [
+        (6..10, 0b11000),
+        (10..11, 0b00011),
+        (11..12, 0b00110),
+        (12..14, 0b00100),
+    ];
+    fitter(&mut plan, &hangers, 4);
     plan.end()
 }
 
@@ -96,5 +116,15 @@ fn ring(
         let from = item * stride % joints;
         let reach = 1 + item / joints % (joints - 1);
         plan.span(item, from as u8, ((from + reach) % joints) as u8);
+    }
+}
+
+/// A MOUNTS team with the mounts that each stretch of instruments fits.
+fn fitter(plan: &mut PlanWriter, mounts: &[(std::ops::Range<usize>, u32)], channels: u8) {
+    plan.mounts(channels);
+    for (items, mounts) in mounts {
+        for item in items.clone() {
+            plan.fit(item, *mounts);
+        }
     }
 }

@@ -1,7 +1,7 @@
 //! Families of plans for the benchmark.
 
 use crate::random::Random;
-use crate::sample::{any_plan, two_joints};
+use crate::sample::{any_plan, caps_and_loops_plan, two_joints};
 use crate::writer::PlanWriter;
 
 /// A family of plans for the benchmark: a name and a maker.
@@ -11,7 +11,7 @@ pub struct Family {
 }
 
 /// The families of the benchmark.
-pub const FAMILIES: [Family; 10] = [
+pub const FAMILIES: [Family; 12] = [
     Family {
         name: "dense loops, 6 joints",
         plan: |random, m, n| loops_on(random, m, n, 6),
@@ -30,7 +30,7 @@ pub const FAMILIES: [Family; 10] = [
     },
     Family {
         name: "mixed",
-        plan: any_plan,
+        plan: caps_and_loops_plan,
     },
     Family {
         name: "all teams alike",
@@ -51,6 +51,14 @@ pub const FAMILIES: [Family; 10] = [
     Family {
         name: "shares use up all",
         plan: tight_shares,
+    },
+    Family {
+        name: "mounts",
+        plan: all_mounts,
+    },
+    Family {
+        name: "all three kinds",
+        plan: any_plan,
     },
 ];
 
@@ -183,6 +191,20 @@ fn tight_shares(random: &mut Random, instruments: usize, teams: usize) -> Vec<u8
         random.shuffle(&mut usable);
         for (class, members) in usable.chunks(teams).enumerate() {
             one_place(&mut plan, even, class as u8, members.iter());
+        }
+    }
+    plan.end()
+}
+
+/// MOUNTS teams only, channels never short: each instrument fits one to three of eight
+/// mounts, so that many a set has to be matched anew.
+fn all_mounts(random: &mut Random, instruments: usize, teams: usize) -> Vec<u8> {
+    let mut plan = PlanWriter::start(instruments);
+    for _ in 0..teams {
+        plan.mounts(255);
+        for item in 0..instruments {
+            let mounts = (0..3).fold(0, |sum, _| sum | 1 << random.below(8));
+            plan.fit(item, mounts);
         }
     }
     plan.end()

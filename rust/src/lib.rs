@@ -14,6 +14,7 @@ pub mod family;
 pub mod ffi;
 pub mod form;
 pub mod listing;
+pub mod matching;
 pub mod partition;
 pub mod plan;
 pub mod random;

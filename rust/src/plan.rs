@@ -1,4 +1,4 @@
-//! Reading a plan: commands of one byte with operands of one byte.
+//! Reading a plan: commands of one byte with their operands.
 
 use crate::bits;
 use crate::refusal::Refusal;
@@ -11,6 +11,8 @@ pub const MOST_INSTRUMENTS: usize = 64;
 pub const CLASSES: usize = 16;
 /// The number of joints a LOOPS team can name.
 pub const JOINTS: usize = 64;
+/// The number of mounts a MOUNTS team can name.
+pub const MOUNTS: usize = 32;
 
 /// A whole plan: the number of instruments and the teams in file order.
 #[derive(Clone, Debug, PartialEq, Eq)]
@@ -26,13 +28,15 @@ pub struct Team {
     pub kind: Kind,
 }
 
-/// The two kinds of team.
+/// The three kinds of team.
 #[derive(Clone, Debug, PartialEq, Eq)]
 pub enum Kind {
     /// A partition matroid.
     Caps(Box<Classes>),
     /// A graphic matroid.
     Loops(Box<Graph>),
+    /// A transversal matroid.
+    Mounts(Box<Bipartite>),
 }
 
 /// The classes of a CAPS team; a class with no CLASS has cap 0.
@@ -50,6 +54,13 @@ pub struct Graph {
     pub ends: [Option<(u8, u8)>; MOST_INSTRUMENTS],
     /// The instruments with an end at each joint.
     pub touching: [u64; JOINTS],
+}
+
+/// The bipartite graph of a MOUNTS team: the mounts that each instrument fits, bit k for
+/// mount k.
+#[derive(Clone, Debug, PartialEq, Eq)]
+pub struct Bipartite {
+    pub fits: [Option<u32>; MOST_INSTRUMENTS],
 }
 
 impl Plan {
@@ -125,6 +136,7 @@ impl<'a> Reader<'a> {
             0x01 => self.at == 0,
             0x04 | 0x05 => matches!(open, Some(Kind::Caps(_))),
             0x06 => matches!(open, Some(Kind::Loops(_))),
+            0x09 => matches!(open, Some(Kind::Mounts(_))),
             0x07 => open.is_some(),
             _ => true,
         }
@@ -140,6 +152,11 @@ impl<'a> Reader<'a> {
             (0x04, &[class, cap]) => self.classes().class(class, cap),
             (0x05, &[item, class]) => self.classes().put(count, item, class),
             (0x06, &[item, a, b]) => self.graph().span(count, item, a, b),
+            (0x08, &[channels]) => self.open(channels, Kind::Mounts(Box::default())),
+            (0x09, &[item, a, b, c, d]) => {
+                let mounts = u32::from_le_bytes([a, b, c, d]);
+                self.bipartite().fit(count, item, mounts)
+            }
             _ => Ok(()),
         }
     }
@@ -153,7 +170,7 @@ impl<'a> Reader<'a> {
         Ok(())
     }
 
-    /// CAPS or LOOPS: opens the next team.
+    /// CAPS, LOOPS or MOUNTS: opens the next team.
     fn open(&mut self, channels: u8, kind: Kind) -> Result<(), u8> {
         if self.plan.teams.len() == MOST_TEAMS {
             return Err(7);
@@ -177,15 +194,24 @@ impl<'a> Reader<'a> {
             _ => unreachable!("the place was tested"),
         }
     }
+
+    /// The bipartite graph of the open MOUNTS team.
+    fn bipartite(&mut self) -> &mut Bipartite {
+        match self.plan.teams.last_mut().map(|team| &mut team.kind) {
+            Some(Kind::Mounts(bipartite)) => bipartite,
+            _ => unreachable!("the place was tested"),
+        }
+    }
 }
 
-/// The number of operands of a command, if there is such a command.
+/// The number of operand bytes of a command, if there is such a command.
 pub fn operand_count(byte: u8) -> Option<usize> {
     match byte {
         0x07 => Some(0),
-        0x02 | 0x03 => Some(1),
+        0x02 | 0x03 | 0x08 => Some(1),
         0x01 | 0x04 | 0x05 => Some(2),
         0x06 => Some(3),
+        0x09 => Some(5),
         _ => None,
     }
 }
@@ -251,6 +277,29 @@ impl Graph {
         self.ends[place] = Some((a, b));
         self.touching[usize::from(a)] |= bits::one(place);
         self.touching[usize::from(b)] |= bits::one(place);
+        Ok(())
+    }
+}
+
+impl Default for Bipartite {
+    fn default() -> Self {
+        Bipartite {
+            fits: [None; MOST_INSTRUMENTS],
+        }
+    }
+}
+
+impl Bipartite {
+    /// FIT: names the mounts of an instrument, none of them also, once.
+    fn fit(&mut self, count: usize, item: u8, mounts: u32) -> Result<(), u8> {
+        let place = usize::from(item);
+        if place >= count {
+            return Err(5);
+        }
+        if self.fits[place].is_some() {
+            return Err(6);
+        }
+        self.fits[place] = Some(mounts);
         Ok(())
     }
 }

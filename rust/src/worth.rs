@@ -1,7 +1,8 @@
-//! Worth as matroid rank, computed by counting and by union-find.
+//! Worth as matroid rank, computed by counting, by union-find and by matching.
 
 use crate::bits;
-use crate::plan::{Classes, Graph, Kind, Plan, Team};
+use crate::matching::Matching;
+use crate::plan::{Bipartite, Classes, Graph, Kind, Plan, Team};
 use crate::refusal::Refusal;
 use crate::union_find::UnionFind;
 
@@ -26,6 +27,7 @@ impl Team {
         match &self.kind {
             Kind::Caps(classes) => classes.rank(set).min(channels),
             Kind::Loops(graph) => graph.rank(set, channels),
+            Kind::Mounts(bipartite) => bipartite.rank(set, channels),
         }
     }
 
@@ -42,6 +44,7 @@ impl Team {
         match &self.kind {
             Kind::Caps(classes) => classes.gains(bundle),
             Kind::Loops(graph) => graph.gains(bundle),
+            Kind::Mounts(bipartite) => bipartite.gains(bundle),
         }
     }
 
@@ -51,6 +54,7 @@ impl Team {
         match &self.kind {
             Kind::Caps(classes) => classes.circuit(bundle, item),
             Kind::Loops(graph) => graph.circuit(bundle, item),
+            Kind::Mounts(bipartite) => bipartite.circuit(bundle, item),
         }
     }
 }
@@ -139,5 +143,42 @@ impl Graph {
             }
         }
         None
+    }
+}
+
+impl Bipartite {
+    /// The mounts of an instrument; none when the plan names none.
+    pub fn mounts_of(&self, item: usize) -> u32 {
+        self.fits[item].unwrap_or(0)
+    }
+
+    /// A matching that takes the instruments in rising order where it can, up to `most`.
+    fn matching(&self, set: u64, most: u32) -> Matching<'_> {
+        let mut matching = Matching::new(self);
+        for item in bits::members(set) {
+            if matching.size() == most {
+                break;
+            }
+            matching.augment(item);
+        }
+        matching
+    }
+
+    /// The size of a largest matching, up to `most`.
+    fn rank(&self, set: u64, most: u32) -> u32 {
+        self.matching(set, most).size()
+    }
+
+    /// The instruments that fit a mount which is free or can be made free.
+    fn gains(&self, bundle: u64) -> u64 {
+        let open = self.matching(bundle, u32::MAX).freeable();
+        let joins = |item: &usize| self.mounts_of(*item) & open != 0;
+        let gains = (0..self.fits.len()).filter(joins).map(bits::one);
+        gains.fold(0, |sum, item| sum | item) & !bundle
+    }
+
+    /// The members reached by alternating paths from `item`, if none ends at a free mount.
+    fn circuit(&self, bundle: u64, item: usize) -> Option<u64> {
+        self.matching(bundle, u32::MAX).circuit(item)
     }
 }

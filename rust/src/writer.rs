@@ -35,6 +35,16 @@ impl PlanWriter {
         self.add(&[0x06, item as u8, a, b])
     }
 
+    /// MOUNTS: opens a team with mounts.
+    pub fn mounts(&mut self, channels: u8) -> &mut Self {
+        self.add(&[0x08, channels])
+    }
+
+    /// FIT: names the mounts an instrument fits, bit k for mount k.
+    pub fn fit(&mut self, item: usize, mounts: u32) -> &mut Self {
+        self.add(&[0x09, item as u8]).add(&mounts.to_le_bytes())
+    }
+
     /// END: the finished file.
     pub fn end(&mut self) -> Vec<u8> {
         self.add(&[0x07]);

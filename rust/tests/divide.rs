@@ -115,7 +115,7 @@ fn refusals_of_each_number() {
         ("02 01 07", "REFUSED 1 0\n"),
         ("01 01", "REFUSED 2 0\n"),
         ("01 01 02 03 02", "REFUSED 2 5\n"),
-        ("01 01 02 02 09 08 07", "REFUSED 3 5\n"),
+        ("01 01 02 02 09 0A 07", "REFUSED 3 5\n"),
         ("01 01 02 07", "REFUSED 4 3\n"),
         ("01 01 41", "REFUSED 5 0\n"),
         ("01 01 02 02 09 05 01 00 05 01 00 07", "REFUSED 6 8\n"),
@@ -123,6 +123,10 @@ fn refusals_of_each_number() {
         ("01 01 02 03 09 07 07", "REFUSED 9 6\n"),
     ];
     for (bytes, line) in faults {
+        assert_eq!(printed(program, &hex(bytes)), line, "{bytes}");
+    }
+    for (bytes, number, place) in MOUNTS_FAULTS {
+        let line = format!("REFUSED {number} {place}\n");
         assert_eq!(printed(program, &hex(bytes)), line, "{bytes}");
     }
     let mut plan = PlanWriter::start(0);
@@ -136,19 +140,17 @@ fn refusals_of_each_number() {
 fn long_input() {
     let Some(program) = &*DIVIDE else { return };
     let more = |byte, count| [plan_a(), vec![byte; count]].concat();
-    for count in [4_073, 4_074, 4_075, 70_000, 1_000_000] {
+    for count in [4_074, 8_169, 8_170, 8_171, 70_000, 1_000_000] {
         assert_eq!(printed(program, &more(0x07, count)), "REFUSED 9 22\n");
         assert_eq!(printed(program, &vec![0x00; count]), "REFUSED 1 0\n");
         assert_eq!(printed(program, &vec![0x01; count]), "REFUSED 4 3\n");
     }
-    let mut longest = PlanWriter::start(64);
-    for _ in 0..12 {
-        longest.loops(255);
-        for item in 0..64 {
-            longest.span(item, 0, 63);
-        }
+    let longest = longest_plan().end();
+    assert_eq!(right_output(program, &longest), 0);
+    for count in [1, 3_555, 3_556, 3_557, 70_000] {
+        let longer = [&longest[..], &vec![0x09; count]].concat();
+        assert_eq!(printed(program, &longer), "REFUSED 9 4636\n");
     }
-    assert_eq!(right_output(program, &longest.end()), 0);
 }
 
 #[test]

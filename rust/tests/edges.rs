@@ -1,11 +1,11 @@
-//! The edges of document 01, case by case.
+//! The edges of document 01 and of note 1, case by case.
 
 mod common;
 
-use common::{hex, own_sheet, read};
+use common::{hex, longest_plan, own_sheet, read, MOUNTS_FAULTS};
 use pool::build::{answer as build, contents, maximin_share};
 use pool::check::{answer as check, page};
-use pool::plan;
+use pool::plan::{self, Kind};
 use pool::refusal::Refusal;
 use pool::worth::worth;
 use pool::writer::{plan_a, PlanWriter};
@@ -132,7 +132,6 @@ fn refused_plans() {
         ("01 01 41 02 01 07", 5, 0),
         ("01 01 02 01 01 02", 4, 3),
         ("01 01 02 01", 2, 3),
-        ("01 01 02 08", 3, 3),
         ("01 01 02 00 07", 3, 3),
         ("01 01 02 05 00 00", 4, 3),
         ("01 01 02 03 09 05 00 00 07", 4, 5),
@@ -152,7 +151,7 @@ fn refused_plans() {
         ("01 01 02 02 09 04 00 01 04 00 01 07", 6, 8),
         ("01 01 02 02 09 07 07", 9, 6),
     ];
-    for (text, number, place) in faults {
+    for (text, number, place) in faults.into_iter().chain(MOUNTS_FAULTS) {
         assert_eq!(refusal(&hex(text)), Refusal::new(number, place), "{text}");
     }
 }
@@ -175,13 +174,42 @@ fn accepted_edges() {
         "01 01 02 03 FF 06 01 3F 00 07",
         "01 01 02 02 FF 04 0F FF 05 00 0F 05 01 03 07",
         "01 01 02 02 01 05 00 00 02 01 05 00 00 07",
+        "01 01 00 08 00 07",
+        "01 01 02 08 FF 09 01 00 00 00 00 09 00 FF FF FF FF 07",
+        "01 01 02 08 01 09 00 01 00 00 00 08 01 09 00 01 00 00 00 02 01 05 00 00 07",
     ] {
         assert!(plan::read(&hex(text)).is_ok(), "{text}");
     }
 }
 
 #[test]
-fn the_longest_plan_and_a_thirteenth_team() {
+fn the_longest_plan() {
+    let file = longest_plan().end();
+    assert_eq!(file.len(), 4636);
+    assert_eq!(own_sheet(&file).len(), 2642);
+    assert_eq!(refusal(&file[..4635]), Refusal::new(2, 4635));
+    for byte in [0x00, 0x07, 0x09] {
+        let longer = [&file[..], &[byte]].concat();
+        assert_eq!(refusal(&longer), Refusal::new(9, 4636));
+    }
+}
+
+#[test]
+fn a_thirteenth_team() {
+    for opening in [0x02, 0x03, 0x08] {
+        let more = longest_plan().add(&[opening, 1]).end();
+        assert_eq!(refusal(&more), Refusal::new(7, 4635));
+        assert_eq!(refusal(&more[..4636]), Refusal::new(2, 4635));
+        let mut teams = PlanWriter::start(0);
+        for _ in 0..13 {
+            teams.add(&[opening, 1]);
+        }
+        assert_eq!(refusal(&teams.end()), Refusal::new(7, 27));
+    }
+}
+
+#[test]
+fn the_longest_plan_without_mounts() {
     let mut plan = PlanWriter::start(64);
     for _ in 0..12 {
         plan.loops(255);
@@ -189,12 +217,9 @@ fn the_longest_plan_and_a_thirteenth_team() {
             plan.span(item, 0, 63);
         }
     }
-    let more = plan.clone().caps(1).end();
     let file = plan.end();
     assert_eq!(file.len(), 3100);
     assert_eq!(own_sheet(&file).len(), 2642);
-    assert_eq!(refusal(&more), Refusal::new(7, 3099));
-    assert_eq!(refusal(&more[..3100]), Refusal::new(2, 3099));
 }
 
 #[test]
@@ -241,4 +266,114 @@ fn two_single_exchanges_need_not_work_together() {
     assert!(team.independent(0b0011));
     assert!(team.independent(0b0110) && team.independent(0b1001));
     assert!(!team.independent(0b1100));
+}
+
+/// A plan of this many MOUNTS teams alike, instrument k fitting the k-th mask.
+fn mounts_teams(teams: usize, channels: u8, masks: &[u32]) -> Vec<u8> {
+    let mut plan = PlanWriter::start(masks.len());
+    for _ in 0..teams {
+        plan.mounts(channels);
+        for (item, &mounts) in masks.iter().enumerate() {
+            plan.fit(item, mounts);
+        }
+    }
+    plan.end()
+}
+
+/// The worth of a set to a MOUNTS team with these masks, by matching and by definition.
+fn mounts_worth(channels: u8, masks: &[u32], set: u64) -> u32 {
+    let file = mounts_teams(1, channels, masks);
+    let found = worth(&file, 0, set).expect("a valid plan");
+    let team = &read(&file).teams[0];
+    assert_eq!(found, definition::worth(team, set & read(&file).all()));
+    found
+}
+
+/// The masks as read of the first team, a MOUNTS team.
+fn masks_read(file: &[u8]) -> Vec<Option<u32>> {
+    let plan = read(file);
+    match &plan.teams[0].kind {
+        Kind::Mounts(bipartite) => bipartite.fits[..plan.instruments].to_vec(),
+        _ => panic!("no MOUNTS team"),
+    }
+}
+
+#[test]
+fn masks_are_read_low_byte_first() {
+    let file = hex("01 01 05 08 09 09 00 01 00 00 00 09 03 01 23 45 67
+                    09 01 00 00 00 80 09 04 FF FF FF FF 07");
+    let expected = [
+        Some(1),
+        Some(0x8000_0000),
+        None,
+        Some(0x6745_2301),
+        Some(u32::MAX),
+    ];
+    assert_eq!(masks_read(&file), expected);
+}
+
+#[test]
+fn no_bits_all_bits_and_no_fit() {
+    let none = hex("01 01 01 08 09 09 00 00 00 00 00 07");
+    let all = hex("01 01 01 08 09 09 00 FF FF FF FF 07");
+    let no_fit = hex("01 01 01 08 09 07");
+    let cases = [
+        (none, Some(0), 0),
+        (all, Some(u32::MAX), 1),
+        (no_fit, None, 0),
+    ];
+    for (file, mask, expected) in cases {
+        assert_eq!(masks_read(&file), [mask]);
+        assert_eq!(worth(&file, 0, 1), Ok(expected));
+        assert_eq!(shares(&file), [expected]);
+        assert_eq!(contents(&read(&file)).total(), expected);
+    }
+}
+
+#[test]
+fn two_instruments_on_one_mount() {
+    for mount in [0, 7, 8, 31] {
+        assert_eq!(mounts_worth(9, &[1 << mount; 2], 0b11), 1);
+        assert_eq!(mounts_worth(9, &[1 << mount; 2], 0b10), 1);
+    }
+    assert_eq!(mounts_worth(9, &[0b11; 3], 0b111), 2);
+    assert_eq!(mounts_worth(9, &[0b01, 0b10], u64::MAX), 2);
+    assert_eq!(shares(&mounts_teams(2, 9, &[1, 1])), [1, 1]);
+    assert_eq!(shares(&mounts_teams(2, 9, &[0b11, 0b11, 0b11])), [1, 1]);
+}
+
+#[test]
+fn a_chain_of_three_rematchings() {
+    let masks = [0b0011, 0b0110, 0b1100, 0b0001, 0b0001];
+    assert_eq!(mounts_worth(9, &masks, 0b01111), 4);
+    assert_eq!(mounts_worth(9, &masks, 0b11000), 1);
+    assert_eq!(mounts_worth(9, &masks, 0b11111), 4);
+    let team = &read(&mounts_teams(1, 9, &masks)).teams[0];
+    assert_eq!(team.gains(0b00111), 0b11000);
+    assert_eq!(team.gains(0b01111), 0);
+    assert_eq!(team.circuit(0b01111, 4), Some(0b01000));
+    assert_eq!(team.circuit(0b00111, 3), None);
+}
+
+#[test]
+fn channels_below_the_matching() {
+    let masks = [0b001, 0b010, 0b100];
+    for channels in 0..5 {
+        let expected = u32::from(channels).min(3);
+        assert_eq!(mounts_worth(channels, &masks, 0b111), expected);
+    }
+    assert_eq!(shares(&mounts_teams(1, 2, &masks)), [2]);
+    let team = &read(&mounts_teams(1, 2, &masks)).teams[0];
+    assert_eq!(team.gains(0b001), 0b110);
+    assert_eq!(team.gains(0b011), 0);
+}
+
+#[test]
+fn thirty_two_mounts() {
+    for channels in [31, 32, 33, 255] {
+        let file = mounts_teams(1, channels, &[u32::MAX; 64]);
+        let most = u32::from(channels).min(32);
+        assert_eq!(worth(&file, 0, u64::MAX), Ok(most));
+        assert_eq!(contents(&read(&file)).total(), most);
+    }
 }

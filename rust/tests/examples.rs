@@ -1,4 +1,5 @@
-//! The example plans: valid, of growing size, and in need of more than the greatest total.
+//! The example plans: valid, of growing size, in need of more than the greatest total, and
+//! the same as their files.
 
 mod common;
 
@@ -8,6 +9,7 @@ use pool::build::{contents, divide};
 use pool::check::answer as check;
 use pool::examples;
 use pool::plan::Plan;
+use std::path::Path;
 
 /// Teams below their share when each instrument goes to the first team that gains it.
 fn short_when_first_come(plan: &Plan, shares: &[u32]) -> usize {
@@ -45,5 +47,19 @@ fn examples_need_levelling() {
         }
         assert!(example.plan.len() > size);
         size = example.plan.len();
+    }
+}
+
+#[test]
+fn examples_are_their_files() {
+    let folder = Path::new(env!("CARGO_MANIFEST_DIR")).join("../examples");
+    for example in examples::all() {
+        let file = std::fs::read(folder.join(format!("{}.plan", example.name)));
+        assert_eq!(
+            file.expect("an example file"),
+            example.plan,
+            "{}",
+            example.name
+        );
     }
 }

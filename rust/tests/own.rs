@@ -9,7 +9,7 @@ use pool::check::{answer as check, layout_of, page};
 use pool::family::FAMILIES;
 use pool::plan::Plan;
 use pool::random::Random;
-use pool::sample::any_plan;
+use pool::sample::{any_plan, mounts_plan};
 use pool::{brute, definition};
 
 /// The sheet is accepted, and its total and shares are the given ones.
@@ -35,6 +35,20 @@ fn worth_is_the_definition() {
             }
             let some = random.word() & plan.all();
             assert_eq!(team.rank(some), definition::worth(team, some));
+        }
+    }
+}
+
+#[test]
+fn matchings_are_the_search() {
+    let mut random = Random::new(10);
+    for _ in 0..cases() / 10 {
+        let m = random.between(6, 9);
+        let file = mounts_plan(&mut random, m, 1);
+        let team = &read(&file).teams[0];
+        let table = brute::worth_table(team, m);
+        for set in bits::subsets(bits::first(m)) {
+            assert_eq!(team.rank(set), table[set as usize], "{file:x?} {set:b}");
         }
     }
 }

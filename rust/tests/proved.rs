@@ -9,9 +9,9 @@ use pool::check::layout_of;
 use pool::family::FAMILIES;
 use pool::random::Random;
 use pool::refusal::Refusal;
-use pool::sample::any_plan;
+use pool::sample::{any_plan, mounts_plan};
 use pool::writer::{plan_a, PlanWriter};
-use pool::{build, check, ffi, listing};
+use pool::{bits, build, check, definition, ffi, listing};
 
 /// The most bytes of the listing of an accepted sheet.
 const MOST_LISTED: usize = 512;
@@ -107,6 +107,116 @@ fn large_plans() {
     }
 }
 
+#[test]
+fn mounts_plans_of_every_size() {
+    let mut random = Random::new(123);
+    for m in 0..=64 {
+        for n in 1..=12 {
+            let file = mounts_plan(&mut random, m, n);
+            same_sheets(&file, random.below(3), random.byte());
+        }
+    }
+    for _ in 0..cases() / 2 {
+        let (m, n) = (random.below(10), random.between(1, 4));
+        same_sheets(&mounts_plan(&mut random, m, n), 0, random.byte());
+    }
+}
+
+#[test]
+fn the_longest_plan() {
+    let mut tally = Tally::default();
+    let file = longest_plan().end();
+    assert_eq!(file.len(), 4636);
+    same_sheets(&file, 1, 17);
+    for at in 4600..4636 {
+        same_reading(&file[..at], &mut tally);
+    }
+    for count in [1, 3_555, 3_556, 3_557, 70_000] {
+        let longer = [&file[..], &vec![0x09; count]].concat();
+        assert_eq!(same_verdict(&longer, &[]), Refusal::new(9, 4636).code());
+        same_reading(&longer, &mut tally);
+    }
+    same_reading(&longest_plan().mounts(1).end(), &mut tally);
+    tally.seen([2, 7, 9].into_iter());
+}
+
+/// The verdict of both checkers on a sheet of a plan of one team that gives it this bundle.
+fn bundle_verdict(file: &[u8], bundle: u64) -> u64 {
+    let plan = read(file);
+    let mut found = contents(&plan);
+    found.bundles = vec![bundle];
+    same_verdict(file, &found.bytes(plan.instruments))
+}
+
+#[test]
+fn every_bundle_of_small_mounts_teams() {
+    let mut random = Random::new(124);
+    let mut tally = Tally::default();
+    for _ in 0..cases() / 40 {
+        let m = random.below(9);
+        let file = mounts_plan(&mut random, m, 1);
+        let plan = read(&file);
+        for bundle in bits::subsets(plan.all()) {
+            let verdict = bundle_verdict(&file, bundle);
+            let free = definition::independent(&plan.teams[0], bundle);
+            assert_eq!(verdict >> 16 != 13, free, "{bundle:b} by {file:x?}");
+            tally.count(verdict);
+        }
+    }
+    tally.seen([0, 13, 14].into_iter());
+}
+
+#[test]
+fn every_bounding_set_of_small_mounts_teams() {
+    let mut random = Random::new(125);
+    let mut tally = Tally::default();
+    for _ in 0..cases() / 40 {
+        let (m, n) = (random.below(9), random.between(1, 3));
+        let file = mounts_plan(&mut random, m, n);
+        let plan = read(&file);
+        let found = contents(&plan);
+        for set in bits::subsets(plan.all()) {
+            let mut other = contents(&plan);
+            other.bound = set;
+            let worths = plan.teams.iter().map(|team| definition::worth(team, set));
+            let sum = bits::size(plan.all() & !set) + worths.sum::<u32>();
+            let verdict = same_verdict(&file, &other.bytes(m));
+            assert_eq!(verdict >> 16 != 14, sum == found.total(), "{file:x?}");
+            tally.count(verdict);
+            other.bound = found.bound;
+            other.shares[random.below(n)].set = set;
+            tally.count(same_verdict(&file, &other.bytes(m)));
+        }
+    }
+    tally.seen([0, 14, 15].into_iter());
+}
+
+#[test]
+fn growing_bundles_of_large_mounts_teams() {
+    let mut random = Random::new(126);
+    let mut tally = Tally::default();
+    for _ in 0..cases() / 200 {
+        let file = mounts_plan(&mut random, 64, 1);
+        let team = &read(&file).teams[0];
+        let mut bundle = 0;
+        loop {
+            let gains = team.gains(bundle);
+            let item = random.below(64);
+            let verdict = bundle_verdict(&file, bundle | bits::one(item));
+            let free = bits::has(bundle | gains, item);
+            assert_eq!(verdict >> 16 != 13, free, "{bundle:b} by {file:x?}");
+            tally.count(verdict);
+            if gains == 0 {
+                break;
+            }
+            let members: Vec<usize> = bits::members(gains).collect();
+            bundle |= bits::one(random.pick(&members));
+        }
+        tally.count(bundle_verdict(&file, bundle));
+    }
+    tally.seen([0, 13, 14].into_iter());
+}
+
 /// Any bytes as a plan: Build without a buffer and Check without a sheet tell all
 /// of Read's refusals.
 fn same_reading(file: &[u8], tally: &mut Tally) {
@@ -132,11 +242,39 @@ fn damaged_plans() {
 }
 
 #[test]
+fn faults_of_mounts_plans() {
+    let mut tally = Tally::default();
+    for (text, number, place) in MOUNTS_FAULTS {
+        let file = hex(text);
+        let expected = Refusal::new(number, place).code();
+        assert_eq!(ffi::check(&file, &[]), expected, "{text}");
+        same_reading(&file, &mut tally);
+    }
+}
+
+#[test]
+fn damaged_mounts_plans() {
+    let mut random = Random::new(127);
+    let mut tally = Tally::default();
+    let mut last = plan_a();
+    for round in 0..cases() / 2 {
+        let m = random.below(if round % 16 == 0 { 65 } else { 7 });
+        let n = random.between(1, 12);
+        let file = mounts_plan(&mut random, m, n);
+        same_reading(&damage(&mut random, &file, &last), &mut tally);
+        same_reading(&damage_commands(&mut random, &file), &mut tally);
+        last = some_plan(&mut random, 6, 4);
+    }
+    tally.seen([1, 2, 3, 4, 5, 6, 7, 9, 11].into_iter());
+}
+
+#[test]
 fn every_byte_of_small_plans() {
     let mut random = Random::new(106);
     let mut tally = Tally::default();
     let mut files = vec![plan_a(), vec![], vec![0x01]];
     files.extend((0..12).map(|_| some_plan(&mut random, 5, 4)));
+    files.extend((1..4).map(|n| mounts_plan(&mut random, 4, n)));
     for file in files {
         for at in 0..file.len() {
             same_reading(&file[..at], &mut tally);
@@ -187,6 +325,7 @@ fn every_byte_of_small_sheets() {
     let empty = PlanWriter::start(0).caps(0).end();
     let mut files = vec![plan_a(), empty, six_instruments()];
     files.extend((0..9).map(|_| some_plan(&mut random, 9, 3)));
+    files.extend((1..3).map(|n| mounts_plan(&mut random, 9, n)));
     for file in files {
         let sheet = own_sheet(&file);
         for at in 0..sheet.len() {

@@ -1,17 +1,18 @@
 -- Parts of a list, and the row of a team: what a byte that is written changes.
-use Prim.Native.Nat.{ℕ, _+_, _-_, _≤_, _<_}
+use Prim.Native.Nat.{ℕ, zero, suc, _+_, _-_, _*_, _≤_, _<_}
 use mathlib.Core.Path.{_≡_, refl, sym, ap, _∙_}
 use mathlib.Core.Bool.{false, not}
 use mathlib.Core.Logic.{_⊎_, inl, inr, _≢_}
-use mathlib.Core.List.{List}
+use mathlib.Core.List.{List, [], _∷_}
 use native.Mathlib.Omega.{arith}
 use native.Mathlib.Decide.{ℕ-discrete}
 use lib.Dec.{eqb}
 use lib.ListN.{length, getD, take, drop, set, replicate, length-take, length-drop, length-set, length-replicate, getD-replicate, List·getD-eq-default}
 use lib.Seq.{getD-take, getD-drop, take-set-lt, take-set-le, drop-set-lt, drop-set-add, getD-set-same, getD-set-other, set-out, ext-getD}
 use Rattle.sets.proofs.Lists.{getD-any}
-use Rattle.command.specs.declared.Command.the-variants.{Class, Put, Span}
-use Rattle.command.specs.Carry.{opened, changedTeam}
+use Rattle.team.specs.Team.{openedTeam}
+use Rattle.command.specs.declared.Command.the-variants.{Class}
+use Rattle.command.specs.Carry.{namedTeam, changedTeam}
 use Rattle.command.specs.Fault.{named}
 use Rattle.command.specs.Row.{part, rowTeam, Filled}
 
@@ -77,12 +78,12 @@ module _ (row : List ℕ) (at : ℕ) (table : List ℕ) (k : ℕ) (r : List ℕ)
   pub copied-all : length table ≤ k → at + length table ≤ length row → r ≡ part row at (length table)
   copied-all full fits = part-is row at (length table) r fits (h .long) (λ i b. h .same i (omega arith))
 
--- whether a table names an instrument, by its byte
-pub named-at : (row : List ℕ) (at i : ℕ) → at + 64 ≤ length row → i < 64 → not (eqb (getD row (at + i) 0) 255) ≡ named (part row at 64) i
-named-at row at i fits b = ap (λ (x : ℕ). not (eqb x 255)) (getD-any row (at + i) 0 255 (omega arith) ∙ sym (part-at row at 64 i 255 b))
+-- whether a command names an instrument, by its byte in the row
+pub named-at : (row : List ℕ) (i : ℕ) → length row ≡ 338 → i < 64 → not (eqb (getD row (18 + i) 0) 255) ≡ named (part row 18 64) i
+named-at row i long b = ap (λ (x : ℕ). not (eqb x 255)) (getD-any row (18 + i) 0 255 (omega arith) ∙ sym (part-at row 18 64 i 255 b))
 
-pub named-past : (row : List ℕ) (at i : ℕ) → 64 ≤ i → false ≡ named (part row at 64) i
-named-past row at i b = sym (ap (λ (x : ℕ). not (eqb x 255)) (part-past row at 64 i 255 b))
+pub named-past : (row : List ℕ) (i : ℕ) → 64 ≤ i → false ≡ named (part row 18 64) i
+named-past row i b = sym (ap (λ (x : ℕ). not (eqb x 255)) (part-past row 18 64 i 255 b))
 
 -- ---- filling
 
@@ -107,71 +108,111 @@ filled-next row from k byte r h low room = record {
     before i (inl a) = inl a
     before i (inr a) = inr (omega arith)
 
+-- ---- a byte in each of several tables
+
+-- a byte written for entry i in one table of 64 after another, from an offset on
+abbrev stores : List ℕ → (at i : ℕ) → List ℕ → List ℕ
+stores l at i [] = l
+stores l at i (v ∷ vs) = stores (set l (at + i) v) (at + 64) i vs
+
+-- what lies before the tables stays
+stores-low : (l : List ℕ) (at i : ℕ) (vs : List ℕ) (k d : ℕ) → k < at → getD (stores l at i vs) k d ≡ getD l k d
+stores-low l at i [] k d b = refl
+stores-low l at i (v ∷ vs) k d b = stores-low (set l (at + i) v) (at + 64) i vs k d (omega arith) ∙ getD-set-other l (at + i) k v d (omega arith)
+
+stores-before : (l : List ℕ) (at i : ℕ) (vs : List ℕ) (from many : ℕ) → from + many ≤ at → part (stores l at i vs) from many ≡ part l from many
+stores-before l at i [] from many b = refl
+stores-before l at i (v ∷ vs) from many b = stores-before (set l (at + i) v) (at + 64) i vs from many (omega arith) ∙ part-after l from many (at + i) v (omega arith)
+
+-- each table has its byte at i
+stores-table : (l : List ℕ) (at i : ℕ) (vs : List ℕ) (k : ℕ) → i < 64 → k < length vs → part (stores l at i vs) (at + 64 * k) 64 ≡ set (part l (at + 64 * k) 64) i (getD vs k 0)
+stores-table l at i [] k b fits = absurd (omega arith)
+stores-table l at i (v ∷ vs) zero b fits = let e : at + 64 * 0 ≡ at = omega arith in rw e (stores-before (set l (at + i) v) (at + 64) i vs at 64 (omega arith) ∙ part-set l at 64 i v b)
+stores-table l at i (v ∷ vs) (suc k) b fits =
+    let e : at + 64 * suc k ≡ at + 64 + 64 * k = omega arith in
+    rw e (stores-table (set l (at + i) v) (at + 64) i vs k b (omega arith)
+    ∙ ap (λ (x : List ℕ). set x i (getD vs k 0)) (part-before l (at + 64 + 64 * k) 64 (at + i) v (omega arith)))
+
 -- ---- a row
 
 -- a row that was filled from its first table on is that of a team just opened
-pub row-opened : (row r r′ : List ℕ) (kind channels cap : ℕ) → length row ≡ 210 → Filled (set (set row 0 kind) 1 channels) 2 18 cap r → Filled r 18 210 255 r′ → rowTeam r′ ≡ opened kind channels cap
+pub row-opened : (row r r′ : List ℕ) (kind channels cap : ℕ) → length row ≡ 338 → Filled (set (set row 0 kind) 1 channels) 2 18 cap r → Filled r 18 338 255 r′ → rowTeam r′ ≡ openedTeam kind channels cap
 unfolding rowTeam
 row-opened row r r′ kind channels cap long f g =
     let wide = length-set (set row 0 kind) 1 channels ∙ length-set row 0 kind in
-    let long′ : length r′ ≡ 210 = g .long ∙ f .long ∙ wide ∙ long in
+    let long′ : length r′ ≡ 338 = g .long ∙ f .long ∙ wide ∙ long in
+    let table : (at : ℕ) → 18 ≤ at → at + 64 ≤ 338 → part r′ at 64 ≡ replicate 64 255 = λ at low high. part-all r′ at 64 255 (omega arith) (λ i b. g .new (at + i) 0 (omega arith) (omega arith)) in
     λ j. record {
       kind = (g .old 0 0 (inl (omega arith)) ∙ f .old 0 0 (inl (omega arith)) ∙ getD-set-other (set row 0 kind) 1 0 channels 0 (omega arith) ∙ getD-set-same row 0 kind 0 (omega arith)) j;
       channels = (g .old 1 0 (inl (omega arith)) ∙ f .old 1 0 (inl (omega arith)) ∙ getD-set-same (set row 0 kind) 1 channels 0 (omega (arith, length-set row 0 kind))) j;
       cap = part-all r′ 2 16 cap (omega arith) (λ i b. g .old (2 + i) 0 (inl (omega arith)) ∙ f .new (2 + i) 0 (omega arith) (omega arith)) j;
-      class = part-all r′ 18 64 255 (omega arith) (λ i b. g .new (18 + i) 0 (omega arith) (omega arith)) j;
-      first = part-all r′ 82 64 255 (omega arith) (λ i b. g .new (82 + i) 0 (omega arith) (omega arith)) j;
-      second = part-all r′ 146 64 255 (omega arith) (λ i b. g .new (146 + i) 0 (omega arith) (omega arith)) j;
+      named = table 18 (omega arith) (omega arith) j;
+      first = table 82 (omega arith) (omega arith) j;
+      second = table 146 (omega arith) (omega arith) j;
+      third = table 210 (omega arith) (omega arith) j;
+      fourth = table 274 (omega arith) (omega arith) j;
     }
 
--- a byte that is written in a row's table is written in the team's
-module _ (row : List ℕ) (i v : ℕ) where
-  pub row-cap : i < 16 → rowTeam (set row (2 + i) v) ≡ changedTeam (rowTeam row) (Class i v)
+module _ (row : List ℕ) (i : ℕ) where
+  -- a cap that is written in a row is written in the team
+  pub row-cap : (v : ℕ) → i < 16 → rowTeam (set row (2 + i) v) ≡ changedTeam (rowTeam row) (Class i v)
   unfolding rowTeam changedTeam
-  row-cap b = λ j. record {
-    kind = getD-set-other row (2 + i) 0 v 0 (omega arith) j;
-    channels = getD-set-other row (2 + i) 1 v 0 (omega arith) j;
-    cap = part-set row 2 16 i v b j;
-    class = part-before row 18 64 (2 + i) v (omega arith) j;
-    first = part-before row 82 64 (2 + i) v (omega arith) j;
-    second = part-before row 146 64 (2 + i) v (omega arith) j;
-  }
+  row-cap v b =
+      let table : (at : ℕ) → 18 ≤ at → part (set row (2 + i) v) at 64 ≡ part row at 64 = λ at low. part-before row at 64 (2 + i) v (omega arith) in
+      λ j. record {
+        kind = getD-set-other row (2 + i) 0 v 0 (omega arith) j;
+        channels = getD-set-other row (2 + i) 1 v 0 (omega arith) j;
+        cap = part-set row 2 16 i v b j;
+        named = table 18 (omega arith) j;
+        first = table 82 (omega arith) j;
+        second = table 146 (omega arith) j;
+        third = table 210 (omega arith) j;
+        fourth = table 274 (omega arith) j;
+      }
 
-  pub row-class : i < 64 → rowTeam (set row (18 + i) v) ≡ changedTeam (rowTeam row) (Put i v)
-  unfolding rowTeam changedTeam
-  row-class b = λ j. record {
-    kind = getD-set-other row (18 + i) 0 v 0 (omega arith) j;
-    channels = getD-set-other row (18 + i) 1 v 0 (omega arith) j;
-    cap = part-after row 2 16 (18 + i) v (omega arith) j;
-    class = part-set row 18 64 i v b j;
-    first = part-before row 82 64 (18 + i) v (omega arith) j;
-    second = part-before row 146 64 (18 + i) v (omega arith) j;
-  }
-
-  pub row-span : (w : ℕ) → i < 64 → rowTeam (set (set row (82 + i) v) (146 + i) w) ≡ changedTeam (rowTeam row) (Span i v w)
-  unfolding rowTeam changedTeam
-  row-span w b = λ j. record {
-    kind = (getD-set-other (set row (82 + i) v) (146 + i) 0 w 0 (omega arith) ∙ getD-set-other row (82 + i) 0 v 0 (omega arith)) j;
-    channels = (getD-set-other (set row (82 + i) v) (146 + i) 1 w 0 (omega arith) ∙ getD-set-other row (82 + i) 1 v 0 (omega arith)) j;
-    cap = (part-after (set row (82 + i) v) 2 16 (146 + i) w (omega arith) ∙ part-after row 2 16 (82 + i) v (omega arith)) j;
-    class = (part-after (set row (82 + i) v) 18 64 (146 + i) w (omega arith) ∙ part-after row 18 64 (82 + i) v (omega arith)) j;
-    first = (part-after (set row (82 + i) v) 82 64 (146 + i) w (omega arith) ∙ part-set row 82 64 i v b) j;
-    second = (part-set (set row (82 + i) v) 146 64 i w b ∙ ap (λ (l : List ℕ). set l i w) (part-before row 146 64 (82 + i) v (omega arith))) j;
-  }
+  -- a command's byte and operands that are written in the five tables of a row are written in the team's
+  pub row-named : (command a b c d : ℕ) → i < 64 → rowTeam (stores row 18 i (command ∷ a ∷ b ∷ c ∷ d ∷ [])) ≡ namedTeam (rowTeam row) i command a b c d
+  unfolding rowTeam
+  row-named command a b c d l =
+      let vs = command ∷ a ∷ b ∷ c ∷ d ∷ [] in
+      λ j. record {
+        kind = stores-low row 18 i vs 0 0 (omega arith) j;
+        channels = stores-low row 18 i vs 1 0 (omega arith) j;
+        cap = stores-before row 18 i vs 2 16 (omega arith) j;
+        named = stores-table row 18 i vs 0 l (omega arith) j;
+        first = stores-table row 18 i vs 1 l (omega arith) j;
+        second = stores-table row 18 i vs 2 l (omega arith) j;
+        third = stores-table row 18 i vs 3 l (omega arith) j;
+        fourth = stores-table row 18 i vs 4 l (omega arith) j;
+      }
 
 -- an operand past the end of its table changes nothing
-module _ (row : List ℕ) (long : length row ≡ 210) (i v : ℕ) where
-  past : (at many : ℕ) (w : ℕ) → at + many ≤ 210 → many ≤ i → part row at many ≡ set (part row at many) i w
+module _ (row : List ℕ) (long : length row ≡ 338) (i : ℕ) where
+  past : (at many : ℕ) (w : ℕ) → at + many ≤ 338 → many ≤ i → part row at many ≡ set (part row at many) i w
   past at many w fits b = sym (set-out (part row at many) i w (omega (arith, part-length row at many (omega arith))))
 
-  pub cap-past : 16 ≤ i → rowTeam row ≡ changedTeam (rowTeam row) (Class i v)
+  pub cap-past : (v : ℕ) → 16 ≤ i → rowTeam row ≡ changedTeam (rowTeam row) (Class i v)
   unfolding rowTeam changedTeam
-  cap-past b = λ j. record { kind = getD row 0 0; channels = getD row 1 0; cap = past 2 16 v (omega arith) b j; class = part row 18 64; first = part row 82 64; second = part row 146 64 }
+  cap-past v b = λ j. record {
+    kind = getD row 0 0;
+    channels = getD row 1 0;
+    cap = past 2 16 v (omega arith) b j;
+    named = part row 18 64;
+    first = part row 82 64;
+    second = part row 146 64;
+    third = part row 210 64;
+    fourth = part row 274 64;
+  }
 
-  pub class-past : 64 ≤ i → rowTeam row ≡ changedTeam (rowTeam row) (Put i v)
-  unfolding rowTeam changedTeam
-  class-past b = λ j. record { kind = getD row 0 0; channels = getD row 1 0; cap = part row 2 16; class = past 18 64 v (omega arith) b j; first = part row 82 64; second = part row 146 64 }
-
-  pub span-past : (w : ℕ) → 64 ≤ i → rowTeam row ≡ changedTeam (rowTeam row) (Span i v w)
-  unfolding rowTeam changedTeam
-  span-past w b = λ j. record { kind = getD row 0 0; channels = getD row 1 0; cap = part row 2 16; class = part row 18 64; first = past 82 64 v (omega arith) b j; second = past 146 64 w (omega arith) b j }
+  pub named-out : (command a b c d : ℕ) → 64 ≤ i → rowTeam row ≡ namedTeam (rowTeam row) i command a b c d
+  unfolding rowTeam
+  named-out command a b c d l = λ j. record {
+    kind = getD row 0 0;
+    channels = getD row 1 0;
+    cap = part row 2 16;
+    named = past 18 64 command (omega arith) l j;
+    first = past 82 64 a (omega arith) l j;
+    second = past 146 64 b (omega arith) l j;
+    third = past 210 64 c (omega arith) l j;
+    fourth = past 274 64 d (omega arith) l j;
+  }

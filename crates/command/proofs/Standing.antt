@@ -9,23 +9,25 @@ use lib.Dec.{eqb, leb}
 use lib.ListN.{length, getD}
 use borrow.Author.Tests.{leb-true, eqb-false}
 use Rattle.command.specs.declared.Command.{Command}
-use Rattle.command.specs.declared.Command.the-variants.{Missing, Unknown, Short, Start, Caps, Loops, Class, Put, Span, End}
+use Rattle.command.specs.declared.Command.the-variants.{Missing, Unknown, Short, Start, Caps, Loops, Mounts, Class, Put, Span, Fit, End}
 use Rattle.command.specs.declared.State.{State}
 use Rattle.team.specs.declared.Team.{Team}
-use Rattle.command.specs.Command.{widthOf, commandOf, commandAt, bytesOf}
+use Rattle.command.specs.Command.{widthOf, commandBy, commandAt, bytesOf}
 use Rattle.command.specs.Fault.{fault}
 
 -- a command has as many bytes as its first byte says
-length-command : (byte a b c : ℕ) → widthOf byte ≢ 0 → bytesOf (commandOf byte a b c) ≡ widthOf byte
-length-command zero a b c d = absurd (d refl)
-length-command (suc zero) a b c d = refl
-length-command (suc (suc zero)) a b c d = refl
-length-command (suc (suc (suc zero))) a b c d = refl
-length-command (suc (suc (suc (suc zero)))) a b c d = refl
-length-command (suc (suc (suc (suc (suc zero))))) a b c d = refl
-length-command (suc (suc (suc (suc (suc (suc zero)))))) a b c d = refl
-length-command (suc (suc (suc (suc (suc (suc (suc zero))))))) a b c d = refl
-length-command (suc (suc (suc (suc (suc (suc (suc (suc k)))))))) a b c d = absurd (d refl)
+length-command : (file : List ℕ) (at byte : ℕ) → widthOf byte ≢ 0 → bytesOf (commandBy file at byte) ≡ widthOf byte
+length-command file at zero d = absurd (d refl)
+length-command file at (suc zero) d = refl
+length-command file at (suc (suc zero)) d = refl
+length-command file at (suc (suc (suc zero))) d = refl
+length-command file at (suc (suc (suc (suc zero)))) d = refl
+length-command file at (suc (suc (suc (suc (suc zero))))) d = refl
+length-command file at (suc (suc (suc (suc (suc (suc zero)))))) d = refl
+length-command file at (suc (suc (suc (suc (suc (suc (suc zero))))))) d = refl
+length-command file at (suc (suc (suc (suc (suc (suc (suc (suc zero)))))))) d = refl
+length-command file at (suc (suc (suc (suc (suc (suc (suc (suc (suc zero))))))))) d = refl
+length-command file at (suc (suc (suc (suc (suc (suc (suc (suc (suc (suc k)))))))))) d = absurd (d refl)
 
 -- a command that stands whole at an offset
 pub record Whole (file : List ℕ) (at : ℕ) (command : Command) : Type 0 where
@@ -41,14 +43,14 @@ stands file at = ends (leb (length file) at)
     byte = getD file at 0
 
     command : Command
-    command = commandOf byte (getD file (at + 1) 0) (getD file (at + 2) 0) (getD file (at + 3) 0)
+    command = commandBy file at byte
 
     Stands : Command → Type 0
     Stands c = (bytesOf c ≡ 0) ⊎ Whole file at c
 
     short : (b : Bool) → leb (at + widthOf byte) (length file) ≡ b → widthOf byte ≢ 0 → Stands (cond b command Short)
     short true t w =
-        let same = length-command byte (getD file (at + 1) 0) (getD file (at + 2) 0) (getD file (at + 3) 0) w in
+        let same = length-command file at byte w in
         let room = leb-true (at + widthOf byte) (length file) t in
         inr (record { some = omega arith; fits = omega arith })
     short false t w = inl refl
@@ -70,9 +72,11 @@ breaks at s team Short z e = omega arith
 breaks at s team (Start version m) z e = omega arith
 breaks at s team (Caps channels) z e = omega arith
 breaks at s team (Loops channels) z e = omega arith
+breaks at s team (Mounts channels) z e = omega arith
 breaks at s team (Class class cap) z e = omega arith
 breaks at s team (Put instrument class) z e = omega arith
 breaks at s team (Span instrument a b) z e = omega arith
+breaks at s team (Fit instrument a b c d) z e = omega arith
 breaks at s team End z e = omega arith
 
 -- a command that breaks no rule stands whole

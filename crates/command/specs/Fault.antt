@@ -5,13 +5,13 @@ use mathlib.Core.List.{List, [], _∷_}
 use lib.Dec.{eqb, leb, ltb}
 use lib.ListN.{getD}
 use Rattle.command.specs.declared.Command.{Command}
-use Rattle.command.specs.declared.Command.the-variants.{Missing, Unknown, Short, Start, Caps, Loops, Class, Put, Span, End}
-use Rattle.team.specs.Team.{capsKind, loopsKind}
+use Rattle.command.specs.declared.Command.the-variants.{Missing, Unknown, Short, Start, Caps, Loops, Mounts, Class, Put, Span, Fit, End}
+use Rattle.team.specs.Team.{capsKind, loopsKind, mountsKind}
 use Rattle.command.specs.declared.State.{State}
 use Rattle.team.specs.declared.Team.{Team}
 use Rattle.command.specs.Rule.{Rule, rule, firstBroken}
 
--- whether a team's table names an instrument: 255 stands where it does not
+-- whether a command of the team names an instrument, by the table of those commands: 255 stands where none does
 abbrev pub named : List ℕ → ℕ → Bool
 named table i = not (eqb (getD table i 255) 255)
 
@@ -30,7 +30,7 @@ classRules s kind class = rule (not (eqb kind capsKind)) 4 ∷ rule (leb 16 clas
 -- PUT belongs to an open CAPS team; "an instrument not below m is 5"; "an instrument named twice in one team is 6"
 abbrev pub putRules : State → Team → (instrument class : ℕ) → List (Rule ℕ)
 putRules s team instrument class =
-    rule (not (eqb (team .kind) capsKind)) 4 ∷ rule (leb (s .m) instrument) 5 ∷ rule (leb 16 class) 5 ∷ rule (named (team .class) instrument) 6 ∷ []
+    rule (not (eqb (team .kind) capsKind)) 4 ∷ rule (leb (s .m) instrument) 5 ∷ rule (leb 16 class) 5 ∷ rule (named (team .named) instrument) 6 ∷ []
 
 -- SPAN belongs to an open LOOPS team; each joint is 0 to 63; "a SPAN with two equal joints is 8"
 abbrev pub spanRules : State → Team → (instrument a b : ℕ) → List (Rule ℕ)
@@ -40,8 +40,12 @@ spanRules s team instrument a b =
     ∷ rule (leb 64 a) 5
     ∷ rule (leb 64 b) 5
     ∷ rule (eqb a b) 8
-    ∷ rule (named (team .first) instrument) 6
+    ∷ rule (named (team .named) instrument) 6
     ∷ []
+
+-- FIT belongs to an open MOUNTS team: "FIT outside such a team is 4, a repeated one 6", also after a FIT with no bits; every mask is in range
+abbrev pub fitRules : State → Team → (instrument : ℕ) → List (Rule ℕ)
+fitRules s team instrument = rule (not (eqb (team .kind) mountsKind)) 4 ∷ rule (leb (s .m) instrument) 5 ∷ rule (named (team .named) instrument) 6 ∷ []
 
 -- "END with no team is 4"
 abbrev pub endRules : State → List (Rule ℕ)
@@ -55,9 +59,11 @@ rulesOf at s team Short = rule true 2 ∷ []
 rulesOf at s team (Start version m) = startRules at version m
 rulesOf at s team (Caps channels) = teamRules s
 rulesOf at s team (Loops channels) = teamRules s
+rulesOf at s team (Mounts channels) = teamRules s
 rulesOf at s team (Class class cap) = classRules s (team .kind) class
 rulesOf at s team (Put instrument class) = putRules s team instrument class
 rulesOf at s team (Span instrument a b) = spanRules s team instrument a b
+rulesOf at s team (Fit instrument a b c d) = fitRules s team instrument
 rulesOf at s team End = endRules s
 
 -- the number of the first rule that a command breaks, and 0 where it breaks none
@@ -72,7 +78,9 @@ isEnd Short = false
 isEnd (Start version m) = false
 isEnd (Caps channels) = false
 isEnd (Loops channels) = false
+isEnd (Mounts channels) = false
 isEnd (Class class cap) = false
 isEnd (Put instrument class) = false
 isEnd (Span instrument a b) = false
+isEnd (Fit instrument a b c d) = false
 isEnd End = true

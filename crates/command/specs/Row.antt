@@ -1,5 +1,5 @@
--- A team as a row of 210 bytes: its kind, its channels, the cap of each of 16 classes, then of each of 64 instruments its class, its first
--- joint and its second.
+-- A team as a row of 338 bytes: its kind, its channels, the cap of each of 16 classes, then five tables over 64 instruments: the byte of the
+-- command that names one, and the four operands of that command after the instrument.
 use Prim.Native.Nat.{ℕ, _≤_, _<_}
 use mathlib.Core.Path.{_≡_}
 use mathlib.Core.Logic.{_⊎_}
@@ -17,9 +17,11 @@ rowTeam row = record {
   kind = getD row 0 0;
   channels = getD row 1 0;
   cap = part row 2 16;
-  class = part row 18 64;
+  named = part row 18 64;
   first = part row 82 64;
   second = part row 146 64;
+  third = part row 210 64;
+  fourth = part row 274 64;
 }
 
 -- r has a byte from one offset up to another, and elsewhere what the row had

@@ -2,7 +2,7 @@
 ghost use mathlib.Core.Path.{_≡_};
 ghost use Prim.Native.Nat.{_≤_};
 ghost use lib.ListN.{length};
-ghost use Rattle.command.specs.Carry.{start, changedTeam, changedState};
+ghost use Rattle.command.specs.Carry.{start, namedTeam, changedTeam, changedState};
 ghost use Rattle.command.specs.Row.{rowTeam};
 use super::Command;
 use super::State;
@@ -22,7 +22,7 @@ pub fn nothing() -> State
 
 // Caps a class of the open team.
 fn set_cap(row: &mut [u8], class: u8, cap: u8)
-    requires { ⌜ length (now row) ≡ 210 ⌝ }
+    requires { ⌜ length (now row) ≡ 338 ⌝ }
     ensures { λ _. ⌜ rowTeam (now (row .exit)) ≡ changedTeam (rowTeam (now (row .entry))) (Command.Class class cap) ⌝ }
 {
     if class < 16 {
@@ -30,31 +30,24 @@ fn set_cap(row: &mut [u8], class: u8, cap: u8)
     }
 }
 
-// Puts an instrument of the open team in a class.
-fn set_class(row: &mut [u8], instrument: u8, class: u8)
-    requires { ⌜ length (now row) ≡ 210 ⌝ }
-    ensures { λ _. ⌜ rowTeam (now (row .exit)) ≡ changedTeam (rowTeam (now (row .entry))) (Command.Put instrument class) ⌝ }
-{
-    if instrument < 64 {
-        row[row::CLASS + wide(instrument)] = class;
-    }
-}
-
-// Gives an instrument of the open team its span.
-fn set_span(row: &mut [u8], instrument: u8, a: u8, b: u8)
-    requires { ⌜ length (now row) ≡ 210 ⌝ }
-    ensures { λ _. ⌜ rowTeam (now (row .exit)) ≡ changedTeam (rowTeam (now (row .entry))) (Command.Span instrument a b) ⌝ }
+// Names an instrument of the open team: the byte of the command, and its operands after the instrument (255 where it has fewer).
+fn set_named(row: &mut [u8], instrument: u8, command: u8, a: u8, b: u8, c: u8, d: u8)
+    requires { ⌜ length (now row) ≡ 338 ⌝ }
+    ensures { λ _. ⌜ rowTeam (now (row .exit)) ≡ namedTeam (rowTeam (now (row .entry))) instrument command a b c d ⌝ }
 {
     if instrument < 64 {
         let i = wide(instrument);
+        row[row::NAMED + i] = command;
         row[row::FIRST + i] = a;
         row[row::SECOND + i] = b;
+        row[row::THIRD + i] = c;
+        row[row::FOURTH + i] = d;
     }
 }
 
 // Changes the row of the team that is open after a command. A team that the command opens takes the place of what the row held.
 pub fn change(row: &mut [u8], command: Command)
-    requires { ⌜ length (now row) ≡ 210 ⌝ }
+    requires { ⌜ length (now row) ≡ 338 ⌝ }
     ensures { λ _. ⌜ rowTeam (now (row .exit)) ≡ changedTeam (rowTeam (now (row .entry))) command ⌝ }
 {
     match command {
@@ -64,9 +57,11 @@ pub fn change(row: &mut [u8], command: Command)
         Command::Start(_, _) => {}
         Command::Caps(channels) => row::open(row, 2, channels, 0),
         Command::Loops(channels) => row::open(row, 3, channels, 255),
+        Command::Mounts(channels) => row::open(row, 8, channels, 255),
         Command::Class(class, cap) => set_cap(row, class, cap),
-        Command::Put(i, class) => set_class(row, i, class),
-        Command::Span(i, a, b) => set_span(row, i, a, b),
+        Command::Put(i, class) => set_named(row, i, 5, class, 255, 255, 255),
+        Command::Span(i, a, b) => set_named(row, i, 6, a, b, 255, 255),
+        Command::Fit(i, a, b, c, d) => set_named(row, i, 9, a, b, c, d),
         Command::End => {}
     }
 }
@@ -107,9 +102,11 @@ pub fn changed_state(mut s: State, command: Command) -> State
         }
         Command::Caps(_) => next_team(s),
         Command::Loops(_) => next_team(s),
+        Command::Mounts(_) => next_team(s),
         Command::Class(class, _) => with_capped(s, class),
         Command::Put(_, _) => s,
         Command::Span(_, _, _) => s,
+        Command::Fit(_, _, _, _, _) => s,
         Command::End => s,
     }
 }

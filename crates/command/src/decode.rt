@@ -2,7 +2,7 @@
 ghost use mathlib.Core.Path.{_≡_};
 ghost use Prim.Native.Nat.{_+_, _≤_};
 ghost use lib.ListN.{length, getD};
-ghost use Rattle.command.specs.Command.{widthOf, commandOf, commandAt, bytesOf, foundAt};
+ghost use Rattle.command.specs.Command.{widthOf, commandBy, commandAt, bytesOf, foundAt};
 use super::Command;
 
 // The byte at an offset, and 0 past the end.
@@ -12,20 +12,20 @@ pub fn byte_at(file: &[u8], at: usize) -> u8
     if at < file.len() { file[at] } else { 0 }
 }
 
-// How many bytes the command of each byte below 08 has, operands included.
-const WIDTHS: [usize; 8] = [0, 3, 2, 2, 3, 3, 4, 1];
+// How many bytes the command of each byte below 0A has, operands included.
+const WIDTHS: [usize; 10] = [0, 3, 2, 2, 3, 3, 4, 1, 2, 6];
 
 // How many bytes the command of a byte has, operands included, and 0 for a byte that is no command's.
 fn width_of(byte: u8) -> usize
     ensures { λ r. ⌜ r ≡ widthOf byte ⌝ }
 {
-    if byte < 8 { WIDTHS[byte as usize] } else { 0 }
+    if byte < 10 { WIDTHS[byte as usize] } else { 0 }
 }
 
 // The command of a byte, with the operands that stand after an offset.
 fn command_of(file: &[u8], at: usize, byte: u8) -> Command
     requires { ⌜ at + widthOf byte ≤ length (now file) ⌝ }
-    ensures { λ r. ⌜ r ≡ commandOf byte (getD (now (file .entry)) (at + 1) 0) (getD (now (file .entry)) (at + 2) 0) (getD (now (file .entry)) (at + 3) 0) ⌝ }
+    ensures { λ r. ⌜ r ≡ commandBy (now (file .entry)) at byte ⌝ }
 {
     match byte {
         1 => Command::Start(file[at + 1], file[at + 2]),
@@ -34,6 +34,14 @@ fn command_of(file: &[u8], at: usize, byte: u8) -> Command
         4 => Command::Class(file[at + 1], file[at + 2]),
         5 => Command::Put(file[at + 1], file[at + 2]),
         6 => Command::Span(file[at + 1], file[at + 2], file[at + 3]),
+        8 => Command::Mounts(file[at + 1]),
+        9 => Command::Fit(
+            file[at + 1],
+            file[at + 2],
+            file[at + 3],
+            file[at + 4],
+            file[at + 5],
+        ),
         _ => Command::End,
     }
 }
@@ -67,9 +75,11 @@ pub fn width(command: Command) -> usize
         Command::Start(_, _) => 3,
         Command::Caps(_) => 2,
         Command::Loops(_) => 2,
+        Command::Mounts(_) => 2,
         Command::Class(_, _) => 3,
         Command::Put(_, _) => 3,
         Command::Span(_, _, _) => 4,
+        Command::Fit(_, _, _, _, _) => 6,
         Command::End => 1,
     }
 }

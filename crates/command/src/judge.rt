@@ -1,8 +1,7 @@
 // Which rule a command breaks first, by the state and the open team's row. 0: none.
 ghost use mathlib.Core.Path.{_≡_};
-ghost use Prim.Native.Nat.{_+_, _≤_};
 ghost use lib.ListN.{length};
-ghost use Rattle.command.specs.Fault.{fault, startRules, teamRules, classRules, putRules, spanRules, endRules, isEnd, named};
+ghost use Rattle.command.specs.Fault.{fault, startRules, teamRules, classRules, putRules, spanRules, fitRules, endRules, isEnd, named};
 ghost use Rattle.command.specs.Row.{part, rowTeam};
 ghost use Rattle.command.specs.Rule.{firstBroken};
 use super::Command;
@@ -22,7 +21,7 @@ fn start_fault(at: usize, version: u8, m: u8) -> usize
     if m > 64 { 5 } else { 0 }
 }
 
-// CAPS and LOOPS: at most twelve teams.
+// CAPS, LOOPS and MOUNTS: at most twelve teams.
 fn team_fault(s: State) -> usize
     ensures { λ r. ⌜ r ≡ firstBroken 0 (teamRules s) ⌝ }
 {
@@ -44,7 +43,7 @@ fn class_fault(s: State, kind: u8, class: u8) -> usize
 
 // PUT: in a CAPS team, an instrument below m, a class below 16, named once.
 fn put_fault(row: &[u8], s: State, instrument: u8, class: u8) -> usize
-    requires { ⌜ length (now row) ≡ 210 ⌝ }
+    requires { ⌜ length (now row) ≡ 338 ⌝ }
     ensures { λ r. ⌜ r ≡ firstBroken 0 (putRules s (rowTeam (now (row .entry))) instrument class) ⌝ }
 {
     let i = instrument as usize;
@@ -57,12 +56,12 @@ fn put_fault(row: &[u8], s: State, instrument: u8, class: u8) -> usize
     if class >= 16 {
         return 5;
     }
-    if named(row, row::CLASS, i) { 6 } else { 0 }
+    if named(row, i) { 6 } else { 0 }
 }
 
 // SPAN: in a LOOPS team, an instrument below m, two different joints below 64, named once.
 fn span_fault(row: &[u8], s: State, instrument: u8, a: u8, b: u8) -> usize
-    requires { ⌜ length (now row) ≡ 210 ⌝ }
+    requires { ⌜ length (now row) ≡ 338 ⌝ }
     ensures { λ r. ⌜ r ≡ firstBroken 0 (spanRules s (rowTeam (now (row .entry))) instrument a b) ⌝ }
 {
     let i = instrument as usize;
@@ -81,7 +80,22 @@ fn span_fault(row: &[u8], s: State, instrument: u8, a: u8, b: u8) -> usize
     if a == b {
         return 8;
     }
-    if named(row, row::FIRST, i) { 6 } else { 0 }
+    if named(row, i) { 6 } else { 0 }
+}
+
+// FIT: in a MOUNTS team, an instrument below m, named once.
+fn fit_fault(row: &[u8], s: State, instrument: u8) -> usize
+    requires { ⌜ length (now row) ≡ 338 ⌝ }
+    ensures { λ r. ⌜ r ≡ firstBroken 0 (fitRules s (rowTeam (now (row .entry))) instrument) ⌝ }
+{
+    let i = instrument as usize;
+    if row[0] != 8 {
+        return 4;
+    }
+    if i >= s.m {
+        return 5;
+    }
+    if named(row, i) { 6 } else { 0 } // also after a FIT with no bits
 }
 
 // END: after a team.
@@ -93,7 +107,7 @@ fn end_fault(s: State) -> usize
 
 // The number of the first rule that a command breaks, given the row of the open team.
 pub fn fault_of(row: &[u8], at: usize, s: State, command: Command) -> usize
-    requires { ⌜ length (now row) ≡ 210 ⌝ }
+    requires { ⌜ length (now row) ≡ 338 ⌝ }
     ensures { λ r. ⌜ r ≡ fault at s (rowTeam (now (row .entry))) command ⌝ }
 {
     match command {
@@ -103,9 +117,11 @@ pub fn fault_of(row: &[u8], at: usize, s: State, command: Command) -> usize
         Command::Start(version, m) => start_fault(at, version, m),
         Command::Caps(_) => team_fault(s),
         Command::Loops(_) => team_fault(s),
+        Command::Mounts(_) => team_fault(s),
         Command::Class(class, _) => class_fault(s, row[0], class),
         Command::Put(i, class) => put_fault(row, s, i, class),
         Command::Span(i, a, b) => span_fault(row, s, i, a, b),
+        Command::Fit(i, _, _, _, _) => fit_fault(row, s, i),
         Command::End => end_fault(s),
     }
 }
@@ -121,17 +137,23 @@ pub fn is_end(command: Command) -> bool
         Command::Start(_, _) => false,
         Command::Caps(_) => false,
         Command::Loops(_) => false,
+        Command::Mounts(_) => false,
         Command::Class(_, _) => false,
         Command::Put(_, _) => false,
         Command::Span(_, _, _) => false,
+        Command::Fit(_, _, _, _, _) => false,
         Command::End => true,
     }
 }
 
-// Whether the table of 64 bytes at an offset of a row names an instrument.
-fn named(row: &[u8], at: usize, i: usize) -> bool
-    requires { ⌜ at + 64 ≤ length (now row) ⌝ }
-    ensures { λ r. ⌜ r ≡ named (part (now (row .entry)) at 64) i ⌝ }
+// Whether a command of the open team names an instrument.
+fn named(row: &[u8], i: usize) -> bool
+    requires { ⌜ length (now row) ≡ 338 ⌝ }
+    ensures { λ r. ⌜ r ≡ named (part (now (row .entry)) 18 64) i ⌝ }
 {
-    if i < 64 { row[at + i] != 255 } else { false }
+    if i < 64 {
+        row[row::NAMED + i] != 255
+    } else {
+        false
+    }
 }

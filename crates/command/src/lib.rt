@@ -16,9 +16,11 @@ pub enum Command {
     Start(u8, u8),
     Caps(u8),
     Loops(u8),
+    Mounts(u8),
     Class(u8, u8),
     Put(u8, u8),
     Span(u8, u8, u8),
+    Fit(u8, u8, u8, u8, u8),
     End,
 }
 

@@ -1,26 +1,32 @@
-// A team as a row of 210 bytes, so that a command changes the open team where it stands: its kind, its channels, the cap of each class, then
-// of each instrument its class and its two joints.
+// A team as a row of 338 bytes, so that a command changes the open team where it stands: its kind, its channels, the cap of each class, then
+// five tables over the instruments: the byte of the command that names one, and the four operands of that command after the instrument.
 ghost use mathlib.Core.Path.{_≡_};
 ghost use Prim.Native.Nat.{_+_, _≤_};
 ghost use lib.ListN.{length};
-ghost use Rattle.command.specs.Carry.{opened};
+ghost use Rattle.team.specs.Team.{openedTeam};
 ghost use Rattle.command.specs.Row.{part, rowTeam, Filled};
 use team::Team;
 
 // How many bytes a row has.
-pub const WIDTH: usize = 210;
+pub const WIDTH: usize = 338;
 
 // Where the caps of the classes begin.
 pub const CAP: usize = 2;
 
-// Where the classes of the instruments begin.
-pub const CLASS: usize = 18;
+// Where the bytes of the commands that name the instruments begin.
+pub const NAMED: usize = 18;
 
-// Where the first joints of the instruments begin.
+// Where the first operands after the instrument begin.
 pub const FIRST: usize = 82;
 
-// Where the second joints of the instruments begin.
+// Where the second operands begin.
 pub const SECOND: usize = 146;
+
+// Where the third operands begin.
+pub const THIRD: usize = 210;
+
+// Where the fourth operands begin.
+pub const FOURTH: usize = 274;
 
 // Writes a byte from one offset up to another.
 fn fill(row: &mut [u8], from: usize, to: usize, byte: u8)
@@ -34,13 +40,13 @@ fn fill(row: &mut [u8], from: usize, to: usize, byte: u8)
 
 // A team that has just been opened, with one cap for each class.
 pub fn open(row: &mut [u8], kind: u8, channels: u8, cap: u8)
-    requires { ⌜ length (now row) ≡ 210 ⌝ }
-    ensures { λ _. ⌜ rowTeam (now (row .exit)) ≡ opened kind channels cap ⌝ }
+    requires { ⌜ length (now row) ≡ 338 ⌝ }
+    ensures { λ _. ⌜ rowTeam (now (row .exit)) ≡ openedTeam kind channels cap ⌝ }
 {
     row[0] = kind;
     row[1] = channels;
-    fill(row, CAP, CLASS, cap);
-    fill(row, CLASS, WIDTH, 255);
+    fill(row, CAP, NAMED, cap);
+    fill(row, NAMED, WIDTH, 255);
 }
 
 // Copies the bytes from an offset on into a table.
@@ -55,7 +61,7 @@ fn copy(row: &[u8], at: usize, table: &mut [u8])
 
 // The caps of a row.
 fn caps(row: &[u8]) -> [u8; 16]
-    requires { ⌜ length (now row) ≡ 210 ⌝ }
+    requires { ⌜ length (now row) ≡ 338 ⌝ }
     ensures { λ r. ⌜ r ≡ part (now (row .entry)) 2 16 ⌝ }
 {
     let mut caps = [0u8; 16];
@@ -75,15 +81,17 @@ fn table(row: &[u8], at: usize) -> [u8; 64]
 
 // The team of a row.
 pub fn team(row: &[u8]) -> Team
-    requires { ⌜ length (now row) ≡ 210 ⌝ }
+    requires { ⌜ length (now row) ≡ 338 ⌝ }
     ensures { λ r. ⌜ r ≡ rowTeam (now (row .entry)) ⌝ }
 {
     Team {
         kind: row[0],
         channels: row[1],
         cap: caps(row),
-        class: table(row, CLASS),
+        named: table(row, NAMED),
         first: table(row, FIRST),
         second: table(row, SECOND),
+        third: table(row, THIRD),
+        fourth: table(row, FOURTH),
     }
 }

@@ -98,12 +98,12 @@ Checks plan sheet number place = ChecksBy (readPlan plan) sheet number place
 
 -- ---- Read
 
--- The answer is the plan's reading. A refusal's number is at most 9 and its place at most 3,100; an accepted plan has at most 3,100 bytes, "m (0
+-- The answer is the plan's reading. A refusal's number is at most 9 and its place at most 4,636; an accepted plan has at most 4,636 bytes, "m (0
 -- to 64)" instruments, and "their count n is 1 to 12".
 pub record Reads (plan : List ℕ) (r : Reading) : Type 0 where
   pub is : r ≡ readPlan plan
   pub number : r .refusal ≤ 9
-  pub place : r .place ≤ 3100
-  pub short : r .refusal ≡ 0 → length plan ≤ 3100
+  pub place : r .place ≤ 4636
+  pub short : r .refusal ≡ 0 → length plan ≤ 4636
   pub instruments : r .refusal ≡ 0 → r .m ≤ 64
   pub teams : r .refusal ≡ 0 → (1 ≤ r .n) × (r .n ≤ 12)

@@ -16,9 +16,9 @@ fn answer(plan: &[u8]) {
     }
 }
 
-// Of standard input the first 4,096 bytes are read: by Read's theorem `first-bytes` they decide the answer.
+// Of standard input the first 8,192 bytes are read: by Read's theorem `first-bytes` they decide the answer.
 fn main() {
-    let mut space = io::buffer();
+    let mut space = [0u8; 8192];
     let k = io::read_full(STDIN_FILENO, &mut space);
     answer(&space[..k]);
 }

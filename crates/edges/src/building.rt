@@ -1,5 +1,6 @@
 // The verb `build PLAN`: the length and the listing of the sheet that Build writes, or the refusal.
 use crate::listing;
+use crate::space;
 use builder::Built;
 use lines::print;
 
@@ -12,7 +13,7 @@ fn show(plan: &[u8], sheet: &[u8], long: usize) {
 
 // Answers the verb.
 pub fn answer(hex: &[u8]) {
-    let mut plan = io::buffer();
+    let mut plan = space::of_plan();
     let k = lines::decode(hex, &mut plan);
     let mut sheet = [0u8; 2642];
     match builder::build(&plan[..k], &mut sheet) {

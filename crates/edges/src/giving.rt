@@ -1,6 +1,7 @@
 // The verb `give TEAMS / PLAN`: the sheet that Build writes, with another division. TEAMS has a byte for each instrument: the team that it is
 // given to, or FF for the pool.
 use crate::listing;
+use crate::space;
 use builder::Built;
 use lines::print;
 
@@ -23,7 +24,7 @@ fn show(plan: &[u8], space: &[u8; 2642], long: usize) {
 pub fn answer(operands: &[u8]) {
     let mut teams = [255u8; 64];
     lines::decode(operands, &mut teams);
-    let mut plan = io::buffer();
+    let mut plan = space::of_plan();
     let k = lines::decode(lines::after(operands, b'/'), &mut plan);
     let mut sheet = [0u8; 2642];
     match builder::build(&plan[..k], &mut sheet) {

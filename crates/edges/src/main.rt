@@ -6,8 +6,10 @@ use lines::print;
 mod building;
 mod giving;
 mod listing;
+mod naming;
 mod reading;
 mod room;
+mod space;
 mod worth;
 
 // Answers a line that is a verb and its operands: each verb has a branch here and a module.
@@ -58,9 +60,9 @@ fn run(text: &[u8]) {
     }
 }
 
-// Of standard input the first 65,536 bytes are read.
+// Of standard input the first 131,072 bytes are read.
 fn main() {
-    let mut space = io::large_buffer();
+    let mut space = space::of_input();
     let n = io::read_full(STDIN_FILENO, &mut space);
     run(&space[..n]);
 }

@@ -1,5 +1,7 @@
 // The verb `read HEX`: what reading a plan comes to.
 ghost use Prim.Native.Nat.{_<_};
+use crate::naming;
+use crate::space;
 use lines::print;
 use plan::Reading;
 use team::Team;
@@ -23,23 +25,6 @@ fn last(table: [u8; 16], class: usize) -> bool
     table[class] != table[class + 1]
 }
 
-// `instrument:class`, and nothing where the class is the filler.
-fn put(instrument: usize, class: u8) {
-    if class != 255 {
-        print::marked(b" ", instrument as u64);
-        print::marked(b":", class as u64);
-    }
-}
-
-// `instrument:joint-joint`, and nothing where both joints are the filler.
-fn span(instrument: usize, first: u8, second: u8) {
-    if first != 255 || second != 255 {
-        print::marked(b" ", instrument as u64);
-        print::marked(b":", first as u64);
-        print::marked(b"-", second as u64);
-    }
-}
-
 // The caps, by class.
 fn caps(table: [u8; 16]) {
     let mut first: usize = 0;
@@ -51,17 +36,16 @@ fn caps(table: [u8; 16]) {
     }
 }
 
-// The classes, by instrument.
-fn puts(table: [u8; 64]) {
+// What names each instrument.
+fn instruments(t: Team) {
+    let named = t.named;
+    let first = t.first;
+    let second = t.second;
+    let third = t.third;
+    let fourth = t.fourth;
     for i in 0..64usize {
-        put(i, table[i]);
-    }
-}
-
-// The joints, by instrument.
-fn spans(first: [u8; 64], second: [u8; 64]) {
-    for i in 0..64usize {
-        span(i, first[i], second[i]);
+        let operands = [first[i], second[i], third[i], fourth[i]];
+        naming::instrument(i, named[i], operands);
     }
 }
 
@@ -70,6 +54,7 @@ fn kind(byte: u8) {
     match byte {
         2 => print::text(b"; CAPS"),
         3 => print::text(b"; LOOPS"),
+        8 => print::text(b"; MOUNTS"),
         _ => print::marked(b"; KIND ", byte as u64),
     }
 }
@@ -79,12 +64,8 @@ fn team(t: Team) {
     kind(t.kind);
     print::marked(b" ", t.channels as u64);
     let cap = t.cap;
-    let class = t.class;
-    let first = t.first;
-    let second = t.second;
     caps(cap);
-    puts(class);
-    spans(first, second);
+    instruments(t);
 }
 
 // The first n teams, and what stands in the place after them where there is one.
@@ -108,9 +89,9 @@ fn show(r: Reading) {
     teams(r.n, table);
 }
 
-// Answers the verb. Of the plan the first 4,096 bytes are read, and no plan of that length is accepted.
+// Answers the verb.
 pub fn answer(hex: &[u8]) {
-    let mut space = io::buffer();
+    let mut space = space::of_plan();
     let k = lines::decode(hex, &mut space);
     show(plan::read(&space[..k]));
 }

@@ -1,5 +1,6 @@
 // The verb `room SIZE PLAN`: what Build answers where it is lent the first SIZE of 4,096 bytes, and from which offset on all of the 4,096 bytes
 // are as they were.
+use crate::space;
 use builder::Built;
 use lines::print;
 
@@ -36,7 +37,7 @@ fn build(plan: &[u8], space: &mut [u8], size: usize) -> Built {
 // Answers the verb.
 pub fn answer(operands: &[u8]) {
     let size = lines::number(operands);
-    let mut plan = io::buffer();
+    let mut plan = space::of_plan();
     let k = lines::decode(lines::rest(operands), &mut plan);
     let mut space = [FILLER; 4096];
     show(build(&plan[..k], &mut space, size));

@@ -1,4 +1,5 @@
 // The verb `worth TEAM SET PLAN`: what a set is worth to a team. The set is written as its bytes, the lowest first, with no spaces.
+use crate::space;
 use lines::print;
 use plan::Answer;
 
@@ -13,7 +14,7 @@ pub fn answer(operands: &[u8]) {
     let after = lines::rest(operands);
     let mut set = [0u8; 8];
     lines::decode(lines::word(after), &mut set);
-    let mut plan = io::buffer();
+    let mut plan = space::of_plan();
     let k = lines::decode(lines::rest(after), &mut plan);
     match plan::worth(&plan[..k], team, set_of(&set)) {
         Answer::Refused(number, place) => print::refusal(number, place),

@@ -37,9 +37,6 @@ fn stands(team: Team, m: usize, glued: u64) -> bool
     ensures yes { λ r. ⌜ (r ≡ true → kindMatroid m team .Indep (bit glued)) ⌝ }
     ensures no { λ r. ⌜ (r ≡ false → kindMatroid m team .Indep (bit glued) → ⊥) ⌝ }
 {
-    if glued == 0 {
-        return true;
-    }
     channels::worth(team, m, glued) == sets::size_below(m, glued)
 }
 
@@ -49,11 +46,14 @@ pub fn worth_of(v: Valuation, m: usize, set: u64) -> usize
     ensures { λ r. ⌜ r ≡ worth (matroidOf m v) (bit set) ⌝ }
 {
     let team = v.team;
-    if !stands(team, m, v.glued) {
-        return 0;
-    }
     let whole = sets::either(sets::both(set, v.usable), v.glued);
-    channels::worth(team, m, whole) - sets::size_below(m, v.glued)
+    let worth = channels::worth(team, m, whole);
+    if v.glued != 0 {
+        if !stands(team, m, v.glued) {
+            return 0;
+        }
+    }
+    worth - sets::size_below(m, v.glued)
 }
 
 // The instruments below m, outside an independent set, that keep it independent.
@@ -62,10 +62,12 @@ pub fn gains_of(v: Valuation, m: usize, set: u64) -> u64
     ensures { λ r. ⌜ (matroidOf m v .Indep (bit set) → MayJoin (matroidOf m v) (bit set) r) ⌝ }
 {
     let team = v.team;
-    if !stands(team, m, v.glued) {
-        return 0;
-    }
     let free = channels::gains(team, m, sets::either(set, v.glued));
+    if v.glued != 0 {
+        if !stands(team, m, v.glued) {
+            return 0;
+        }
+    }
     sets::both(free, v.usable)
 }
 
@@ -78,10 +80,12 @@ pub fn grown(v: Valuation, m: usize, set: u64, from: u64, most: usize) -> u64
         return set;
     }
     let team = v.team;
-    if !stands(team, m, v.glued) {
-        return set;
-    }
     let offered = sets::both(from, v.usable);
     let larger = channels::grown(team, m, sets::either(set, v.glued), offered, most);
+    if v.glued != 0 {
+        if !stands(team, m, v.glued) {
+            return set;
+        }
+    }
     sets::either(set, sets::minus(larger, v.glued))
 }

@@ -14,7 +14,7 @@ pub fn worth(team: Team, m: usize, set: u64) -> usize
 {
     let kind = team.kind;
     if kind == 2 {
-        let class = team.class;
+        let class = team.first;
         let cap = team.cap;
         return caps::worth(class, cap, m, set);
     }
@@ -22,6 +22,14 @@ pub fn worth(team: Team, m: usize, set: u64) -> usize
         let first = team.first;
         let second = team.second;
         return loops::worth(first, second, m, set);
+    }
+    if kind == 8 {
+        let named = team.named;
+        let first = team.first;
+        let second = team.second;
+        let third = team.third;
+        let fourth = team.fourth;
+        return mounts::worth(named, first, second, third, fourth, m, set);
     }
     0
 }
@@ -33,7 +41,7 @@ pub fn gains(team: Team, m: usize, set: u64) -> u64
 {
     let kind = team.kind;
     if kind == 2 {
-        let class = team.class;
+        let class = team.first;
         let cap = team.cap;
         return caps::gains(class, cap, m, set);
     }
@@ -41,6 +49,14 @@ pub fn gains(team: Team, m: usize, set: u64) -> u64
         let first = team.first;
         let second = team.second;
         return loops::gains(first, second, m, set);
+    }
+    if kind == 8 {
+        let named = team.named;
+        let first = team.first;
+        let second = team.second;
+        let third = team.third;
+        let fourth = team.fourth;
+        return mounts::gains(named, first, second, third, fourth, m, set);
     }
     0
 }
@@ -52,7 +68,7 @@ pub fn grown(team: Team, m: usize, set: u64, from: u64, most: usize) -> u64
 {
     let kind = team.kind;
     if kind == 2 {
-        let class = team.class;
+        let class = team.first;
         let cap = team.cap;
         return caps::grown(class, cap, m, set, from, most);
     }
@@ -60,6 +76,14 @@ pub fn grown(team: Team, m: usize, set: u64, from: u64, most: usize) -> u64
         let first = team.first;
         let second = team.second;
         return loops::grown(first, second, m, set, from, most);
+    }
+    if kind == 8 {
+        let named = team.named;
+        let first = team.first;
+        let second = team.second;
+        let third = team.third;
+        let fourth = team.fourth;
+        return mounts::grown(named, first, second, third, fourth, m, set, from, most);
     }
     set
 }

@@ -1,4 +1,4 @@
--- The theorems about readings: how long an accepted file is, where refusals stand, what an accepted reading holds, and that the first 4,096
+-- The theorems about readings: how long an accepted file is, where refusals stand, what an accepted reading holds, and that the first 8,192
 -- bytes of a file decide its reading.
 use Prim.Native.Nat.{ℕ, zero, suc, _+_, _≤_, _<_}
 use mathlib.Core.Path.{_≡_, refl, sym, ap, _∙_, subst}
@@ -12,11 +12,11 @@ use lib.ListN.{length, getD, take, replicate, length-take}
 use lib.Seq.{take-all, getD-take}
 use borrow.Author.Tests.{ltb-false, eqb-false, lt-leb, le-leb, lt-ltb}
 use Rattle.command.specs.declared.Command.{Command}
-use Rattle.command.specs.declared.Command.the-variants.{Missing, Unknown, Short, Start, Caps, Loops, Class, Put, Span, End}
+use Rattle.command.specs.declared.Command.the-variants.{Missing, Unknown, Short, Start, Caps, Loops, Mounts, Class, Put, Span, Fit, End}
 use Rattle.plan.specs.declared.Reading.{Reading}
 use Rattle.command.specs.declared.State.{State}
 use Rattle.team.specs.declared.Team.{Team}
-use Rattle.command.specs.Command.{widthOf, commandOf, commandAt, bytesOf}
+use Rattle.command.specs.Command.{widthOf, commandBy, commandAt, bytesOf}
 use Rattle.command.specs.Fault.{fault, isEnd}
 use Rattle.command.specs.Carry.{start, openTeam, changedTeam, changedState}
 use Rattle.team.specs.Team.{blankTeam}
@@ -65,9 +65,11 @@ is-end Short e = absurd (false≢true e)
 is-end (Start version m) e = absurd (false≢true e)
 is-end (Caps channels) e = absurd (false≢true e)
 is-end (Loops channels) e = absurd (false≢true e)
+is-end (Mounts channels) e = absurd (false≢true e)
 is-end (Class class most) e = absurd (false≢true e)
 is-end (Put instrument class) e = absurd (false≢true e)
 is-end (Span instrument a b) e = absurd (false≢true e)
+is-end (Fit instrument a b c d) e = absurd (false≢true e)
 is-end End e = refl
 
 -- an END that breaks no rule has a team before it
@@ -81,10 +83,10 @@ end-some at s team command e z = go (eqb (s .n) 0) refl (subst (λ (c : Command)
 
 -- what is known of a reading
 pub record Bounded (file : List ℕ) (r : Reading) : Type 0 where
-  -- every refusal's place is at most 3,100
-  pub place : r .place ≤ 3100
-  -- an accepted file has at most 3,100 bytes
-  pub short : r .refusal ≡ 0 → length file ≤ 3100
+  -- every refusal's place is at most 4,636
+  pub place : r .place ≤ 4636
+  -- an accepted file has at most 4,636 bytes
+  pub short : r .refusal ≡ 0 → length file ≤ 4636
   -- and its reading is in order
   pub valid : r .refusal ≡ 0 → Valid r
 
@@ -107,8 +109,8 @@ bounded file = all-readings file (Bounded file) at-fault at-end (record { place 
 
 -- ---- a file's first bytes decide its reading
 
--- no command has more than 4 bytes
-width-le : (byte : ℕ) → widthOf byte ≤ 4
+-- no command has more than 6 bytes
+width-le : (byte : ℕ) → widthOf byte ≤ 6
 width-le zero = omega arith
 width-le (suc zero) = omega arith
 width-le (suc (suc zero)) = omega arith
@@ -117,21 +119,21 @@ width-le (suc (suc (suc (suc zero)))) = omega arith
 width-le (suc (suc (suc (suc (suc zero))))) = omega arith
 width-le (suc (suc (suc (suc (suc (suc zero)))))) = omega arith
 width-le (suc (suc (suc (suc (suc (suc (suc zero))))))) = omega arith
-width-le (suc (suc (suc (suc (suc (suc (suc (suc k)))))))) = omega arith
+width-le (suc (suc (suc (suc (suc (suc (suc (suc zero)))))))) = omega arith
+width-le (suc (suc (suc (suc (suc (suc (suc (suc (suc zero))))))))) = omega arith
+width-le (suc (suc (suc (suc (suc (suc (suc (suc (suc (suc k)))))))))) = omega arith
 
--- a command whose four bytes are in a file, whatever follows them
-abbrev four : List ℕ → ℕ → Command
-four file at =
-    let byte = getD file at 0 in
-    cond (eqb (widthOf byte) 0) Unknown (commandOf byte (getD file (at + 1) 0) (getD file (at + 2) 0) (getD file (at + 3) 0))
+-- a command whose six bytes are in a file, whatever follows them
+abbrev six : List ℕ → ℕ → Command
+six file at = let byte = getD file at 0 in cond (eqb (widthOf byte) 0) Unknown (commandBy file at byte)
 
-inside-four : (file : List ℕ) (at : ℕ) → at + 4 ≤ length file → commandAt file at ≡ four file at
+inside-six : (file : List ℕ) (at : ℕ) → at + 6 ≤ length file → commandAt file at ≡ six file at
 unfolding commandAt
-inside-four file at l =
+inside-six file at l =
     let w = width-le (getD file at 0) in
     rw (lt-leb (length file) at (omega arith), le-leb (at + widthOf (getD file at 0)) (length file) (omega arith), commandAt) refl
 
-module _ (file : List ℕ) (w : ℕ) (enough : 3104 ≤ w) (long : w ≤ length file) where
+module _ (file : List ℕ) (w : ℕ) (enough : 4641 ≤ w) (long : w ≤ length file) where
   window : List ℕ
   window = take w file
 
@@ -140,21 +142,21 @@ module _ (file : List ℕ) (w : ℕ) (enough : 3104 ≤ w) (long : w ≤ length 
   window-length = length-take w file ∙ (omega arith)
 
   -- the same command
-  same-command : (at : ℕ) → at ≤ 3099 → commandAt window at ≡ commandAt file at
+  same-command : (at : ℕ) → at ≤ 4635 → commandAt window at ≡ commandAt file at
   unfolding window
   same-command at l =
       let e = window-length in
-      inside-four (take w file) at (omega arith)
-      ∙ rw (getD-take w file at 0 (omega arith), getD-take w file (at + 1) 0 (omega arith), getD-take w file (at + 2) 0 (omega arith), getD-take w file (at + 3) 0 (omega arith))
-      (sym (inside-four file at (omega arith)))
+      inside-six (take w file) at (omega arith)
+      ∙ rw (getD-take w file at 0 (omega arith), getD-take w file (at + 1) 0 (omega arith), getD-take w file (at + 2) 0 (omega arith), getD-take w file (at + 3) 0 (omega arith), getD-take w file (at + 4) 0 (omega arith), getD-take w file (at + 5) 0 (omega arith))
+      (sym (inside-six file at (omega arith)))
 
   -- END is followed by more in either
-  same-end : (at : ℕ) (s : State) (teams : List Team) → at ≤ 3099 → finished window at s teams ≡ finished file at s teams
+  same-end : (at : ℕ) (s : State) (teams : List Team) → at ≤ 4635 → finished window at s teams ≡ finished file at s teams
   same-end at s teams l =
       let e = window-length in
       rw (lt-ltb (at + 1) (length window) (omega arith), lt-ltb (at + 1) (length file) (omega arith)) refl
 
-  same-number : (at : ℕ) (s : State) (teams : List Team) → at ≤ 3099 → number window at s teams ≡ number file at s teams
+  same-number : (at : ℕ) (s : State) (teams : List Team) → at ≤ 4635 → number window at s teams ≡ number file at s teams
   same-number at s teams l = ap (fault at s (openTeam teams (s .n))) (same-command at l)
 
   same-from : (fuel fuel′ at : ℕ) (s : State) (teams : List Team) → Kept at s teams → at ≤ w → w < at + fuel → length file < at + fuel′
@@ -168,7 +170,7 @@ module _ (file : List ℕ) (w : ℕ) (enough : 3104 ≤ w) (long : w ≤ length 
       same-from fuel fuel′ (at + bytesOf command) (changedState s command) (changedTeams teams (changedState s command .n) (changedTeam (openTeam teams (s .n)) command))
       (kept-next at s teams command k z e) fits (omega arith) (omega arith))
     where
-      l : at ≤ 3099
+      l : at ≤ 4635
       l = kept-at k
 
       go : Dec (number file at s teams ≡ 0) → (b : Bool) → isEnd (commandAt file at) ≡ b
@@ -210,10 +212,10 @@ module _ (file : List ℕ) (w : ℕ) (enough : 3104 ≤ w) (long : w ≤ length 
           ∙ sym (plan-start file e)
       go (no d) = plan-none window (λ e. d (sym first ∙ e)) ∙ sym (plan-none file d)
 
--- reading the first 4,096 bytes of a file gives the same answer as reading all of it
-pub first-bytes : (file : List ℕ) → readPlan (take 4096 file) ≡ readPlan file
+-- reading the first 8,192 bytes of a file gives the same answer as reading all of it
+pub first-bytes : (file : List ℕ) → readPlan (take 8192 file) ≡ readPlan file
 unfolding window
-first-bytes file = elim (decLe 4096 (length file)) [ yes l ↦ same-reading file 4096 (omega arith) l | no d ↦ ap readPlan (take-all 4096 file (omega arith)) ]
+first-bytes file = elim (decLe 8192 (length file)) [ yes l ↦ same-reading file 8192 (omega arith) l | no d ↦ ap readPlan (take-all 8192 file (omega arith)) ]
 
 -- the same of an answer of `read`
 pub valid-reading : (file : List ℕ) (r : Reading) → r ≡ readPlan file → r .refusal ≡ 0 → Valid r

@@ -10,7 +10,7 @@ use lib.ListN.{length, take, drop}
 use borrow.Author.Tests.{eq-eqb, ne-eqb, leb-false}
 use Rattle.team.specs.declared.Team.{Team}
 use Rattle.command.specs.declared.Command.{Command}
-use Rattle.command.specs.declared.Command.the-variants.{Missing, Unknown, Short, Start, Caps, Loops, Class, Put, Span, End}
+use Rattle.command.specs.declared.Command.the-variants.{Missing, Unknown, Short, Start, Caps, Loops, Mounts, Class, Put, Span, Fit, End}
 use Rattle.command.specs.declared.State.{State}
 use Rattle.command.specs.Fault.{fault, isEnd}
 use Rattle.command.specs.Carry.{changedTeam, changedState}
@@ -31,12 +31,14 @@ few-teams at s team Short l e = l
 few-teams at s team (Start version m) l e = l
 few-teams at s team (Caps channels) l e = room (s .n) (leb 12 (s .n)) refl e
 few-teams at s team (Loops channels) l e = room (s .n) (leb 12 (s .n)) refl e
+few-teams at s team (Mounts channels) l e = room (s .n) (leb 12 (s .n)) refl e
 few-teams at s team (Class class most) l e = l
 few-teams at s team (Put instrument class) l e = l
 few-teams at s team (Span instrument a b) l e = l
+few-teams at s team (Fit instrument a b c d) l e = l
 few-teams at s team End l e = l
 
-module _ (rows : List ℕ) (at : ℕ) (s : State) (command : Command) (number : ℕ) (is : number ≡ fault at s (rowTeam (take (210 * s .n + 210 - 210 * s .n) (drop (210 * s .n) rows))) command) where
+module _ (rows : List ℕ) (at : ℕ) (s : State) (command : Command) (number : ℕ) (is : number ≡ fault at s (rowTeam (take (338 * s .n + 338 - 338 * s .n) (drop (338 * s .n) rows))) command) where
   -- the rule that is broken, given the open team's row
   number-is : number ≡ fault at s (rowAt rows (s .n)) command
   number-is = is ∙ ap (λ (team : Team). fault at s team command) (row-lent rows (s .n))
@@ -66,9 +68,9 @@ module _ (rows : List ℕ) (at : ℕ) (s : State) (command : Command) (number : 
     }
 
     -- the row of the team that is then open was lent, changed and put back
-    pub follow-on : isEnd command ≡ false → length rows ≡ 2730 → s .n ≤ 12 → (next : State) → next ≡ changedState s command → (ys : List ℕ)
-        → length ys ≡ length (take (210 * next .n + 210 - 210 * next .n) (drop (210 * next .n) rows)) → rowTeam ys ≡ changedTeam (rowTeam (take (210 * next .n + 210 - 210 * next .n) (drop (210 * next .n) rows))) command
-        → Followed rows at s command (record { s = next; stopped = false; fault = 0; at = at }) (take (210 * next .n) rows ++ (ys ++ drop (210 * next .n + 210 - 210 * next .n) (drop (210 * next .n) rows)))
+    pub follow-on : isEnd command ≡ false → length rows ≡ 4394 → s .n ≤ 12 → (next : State) → next ≡ changedState s command → (ys : List ℕ)
+        → length ys ≡ length (take (338 * next .n + 338 - 338 * next .n) (drop (338 * next .n) rows)) → rowTeam ys ≡ changedTeam (rowTeam (take (338 * next .n + 338 - 338 * next .n) (drop (338 * next .n) rows))) command
+        → Followed rows at s command (record { s = next; stopped = false; fault = 0; at = at }) (take (338 * next .n) rows ++ (ys ++ drop (338 * next .n + 338 - 338 * next .n) (drop (338 * next .n) rows)))
     follow-on e long few next same ys wide changed =
         let within = follow-few few next same in
         let full = wide ∙ ap length (lent rows (next .n)) ∙ lent-length rows (next .n) long within in

@@ -1,4 +1,4 @@
--- The longest accepted plan: the bound of 3,100 bytes is met.
+-- The longest accepted plan: the bound of 4,636 bytes is met.
 use Prim.Native.Nat.{ℕ, zero, suc, _+_, _-_, _≤_, _<_}
 use mathlib.Core.Path.{_≡_, refl, sym, ap, _∙_}
 use mathlib.Core.Bool.{false, not}
@@ -9,11 +9,11 @@ use lib.ListN.{length, getD, drop, set, replicate, length-set, length-drop}
 use lib.Seq.{getD-set-same, getD-drop, drop-drop, getD-set-other}
 use borrow.Author.Tests.{lt-ltb, le-ltb, lt-leb, le-leb, ne-eqb}
 use Rattle.command.specs.declared.Command.{Command}
-use Rattle.command.specs.declared.Command.the-variants.{Start, Loops, Span}
+use Rattle.command.specs.declared.Command.the-variants.{Start, Mounts, Fit}
 use Rattle.plan.specs.declared.Reading.{Reading}
 use Rattle.command.specs.declared.State.{State}
 use Rattle.team.specs.declared.Team.{Team}
-use Rattle.team.specs.Team.{loopsKind, blankTeam}
+use Rattle.team.specs.Team.{mountsKind, blankTeam}
 use Rattle.command.specs.Command.{widthOf, commandOf, commandAt, bytesOf}
 use Rattle.command.specs.Fault.{named, fault, isEnd}
 use Rattle.command.specs.Carry.{start, openTeam, changedTeam, changedState}
@@ -22,21 +22,21 @@ use Rattle.plan.proofs.Tables.{named-none}
 use Rattle.plan.proofs.Kept.{changed-last}
 use Rattle.plan.proofs.Steps.{step-end, step-next, plan-start}
 
--- spans of the instruments below k, and then the rest of a plan
-abbrev spans : ℕ → List ℕ → List ℕ
-spans zero rest = rest
-spans (suc k) rest = 6 ∷ k ∷ 0 ∷ 1 ∷ spans k rest
+-- FITs of the instruments below k for every mount, and then the rest of a plan
+abbrev fits : ℕ → List ℕ → List ℕ
+fits zero rest = rest
+fits (suc k) rest = 9 ∷ k ∷ 255 ∷ 255 ∷ 255 ∷ 255 ∷ fits k rest
 
--- so many LOOPS teams with a span for each of 64 instruments, and then the rest of a plan
-abbrev loops : ℕ → List ℕ → List ℕ
-loops zero rest = rest
-loops (suc n) rest = 3 ∷ 64 ∷ spans 64 (loops n rest)
+-- so many MOUNTS teams with a FIT for each of 64 instruments, and then the rest of a plan
+abbrev mounts : ℕ → List ℕ → List ℕ
+mounts zero rest = rest
+mounts (suc n) rest = 8 ∷ 64 ∷ fits 64 (mounts n rest)
 
--- 64 instruments, and twelve LOOPS teams in which each has a span
+-- 64 instruments, and twelve MOUNTS teams in which each has a FIT
 pub longest : List ℕ
-longest = 1 ∷ 1 ∷ 64 ∷ loops 12 (7 ∷ [])
+longest = 1 ∷ 1 ∷ 64 ∷ mounts 12 (7 ∷ [])
 
-pub longest-length : length longest ≡ 3100
+pub longest-length : length longest ≡ 4636
 unfolding longest
 longest-length = refl
 
@@ -51,12 +51,12 @@ module _ (file : List ℕ) (at : ℕ) (left : List ℕ) (is : drop at file ≡ l
   length-left = sym (ap length is) ∙ length-drop at file
 
   -- the command there, where it stands whole
-  command-left : (byte width : ℕ) → getD left 0 0 ≡ byte → widthOf byte ≡ width → 0 < width → width ≤ length left → commandAt file at ≡ commandOf byte (getD left 1 0) (getD left 2 0) (getD left 3 0)
+  command-left : (byte width : ℕ) → getD left 0 0 ≡ byte → widthOf byte ≡ width → 0 < width → width ≤ length left → commandAt file at ≡ commandOf byte (getD left 1 0) (getD left 2 0) (getD left 3 0) (getD left 4 0) (getD left 5 0)
   unfolding commandAt
-  command-left byte width e w some fits =
+  command-left byte width e w some room =
       let long = length-left in
       let here : getD file at 0 ≡ byte = ap (λ (k : ℕ). getD file k 0) (omega arith) ∙ byte-left 0 ∙ e in
-      rw (here, w, lt-leb (length file) at (omega arith), ne-eqb width 0 (omega arith), le-leb (at + width) (length file) (omega arith), byte-left 1, byte-left 2, byte-left 3, commandAt) refl
+      rw (here, w, lt-leb (length file) at (omega arith), ne-eqb width 0 (omega arith), le-leb (at + width) (length file) (omega arith), byte-left 1, byte-left 2, byte-left 3, byte-left 4, byte-left 5, commandAt) refl
 
 -- reading from an offset on refuses nothing
 abbrev Accepts : ℕ → List ℕ → ℕ → State → List Team → Type 0
@@ -90,57 +90,57 @@ abbrev more : ℕ → ℕ → ℕ
 more zero fuel = fuel
 more (suc k) fuel = suc (more k fuel)
 
--- an open team in which the instruments below k have no span
+-- an open team in which no instrument below k has a FIT
 record Open (k : ℕ) (s : State) (teams : List Team) : Type 0 where
   m : s .m ≡ 64
   some : 0 < s .n
   few : s .n ≤ 12
   long : length teams ≡ 12
-  kind : openTeam teams (s .n) .kind ≡ loopsKind
-  unnamed : (i : ℕ) → i < k → named (openTeam teams (s .n) .first) i ≡ false
+  kind : openTeam teams (s .n) .kind ≡ mountsKind
+  unnamed : (i : ℕ) → i < k → named (openTeam teams (s .n) .named) i ≡ false
 
--- the spans of a team are read, and then the rest
-spans-read : (file rest : List ℕ) (fuel : ℕ) (s : State) → ((at : ℕ) (teams : List Team) → length teams ≡ 12 → drop at file ≡ rest → Accepts fuel file at s teams)
-    → (k at : ℕ) (teams : List Team) → k ≤ 64 → Open k s teams → drop at file ≡ spans k rest → Accepts (more k fuel) file at s teams
+-- the FITs of a team are read, and then the rest
+fits-read : (file rest : List ℕ) (fuel : ℕ) (s : State) → ((at : ℕ) (teams : List Team) → length teams ≡ 12 → drop at file ≡ rest → Accepts fuel file at s teams)
+    → (k at : ℕ) (teams : List Team) → k ≤ 64 → Open k s teams → drop at file ≡ fits k rest → Accepts (more k fuel) file at s teams
 unfolding fault changedState changedTeam
-spans-read file rest fuel s after zero at teams l o is = after at teams (o .long) is
-spans-read file rest fuel s after (suc k) at teams l o is =
+fits-read file rest fuel s after zero at teams l o is = after at teams (o .long) is
+fits-read file rest fuel s after (suc k) at teams l o is =
     let team = openTeam teams (s .n) in
-    let team′ = changedTeam team (Span k 0 1) in
+    let team′ = changedTeam team (Fit k 255 255 255 255) in
     let here = stored-open teams (s .n) team′ (o .long) (o .some) (o .few) in
-    passes (more k fuel) file at s teams (Span k 0 1)
-    (command-left file at (spans (suc k) rest) is 6 4 refl refl (omega arith) (omega arith))
+    passes (more k fuel) file at s teams (Fit k 255 255 255 255)
+    (command-left file at (fits (suc k) rest) is 9 6 refl refl (omega arith) (omega arith))
     (rw (o .kind, o .m, lt-leb 64 k (omega arith), o .unnamed k (omega arith)) refl)
     refl
-    (spans-read file rest fuel s after k (at + 4) (changedTeams teams (s .n) team′) (omega arith)
+    (fits-read file rest fuel s after k (at + 6) (changedTeams teams (s .n) team′) (omega arith)
     (record {
       m = o .m;
       some = o .some;
       few = o .few;
       long = stored-long teams (s .n) team′ (o .long) (o .some) (o .few);
       kind = rw here (o .kind);
-      unnamed = λ i b. rw here (ap (λ (x : ℕ). not (eqb x 255)) (getD-set-other (team .first) k i 0 255 (omega arith)) ∙ o .unnamed i (omega arith));
+      unnamed = λ i b. rw here (ap (λ (x : ℕ). not (eqb x 255)) (getD-set-other (team .named) k i 9 255 (omega arith)) ∙ o .unnamed i (omega arith));
     })
-    (left-next file at 4 is))
+    (left-next file at 6 is))
 
 -- n teams are read, and then the rest
 abbrev moreTeams : ℕ → ℕ → ℕ
 moreTeams zero fuel = fuel
 moreTeams (suc n) fuel = suc (more 64 (moreTeams n fuel))
 
-loops-read : (file rest : List ℕ) (fuel : ℕ) → ((at : ℕ) (s : State) (teams : List Team) → s .n ≡ 12 → drop at file ≡ rest → Accepts fuel file at s teams)
-    → (n at : ℕ) (s : State) (teams : List Team) → s .m ≡ 64 → s .n + n ≡ 12 → length teams ≡ 12 → drop at file ≡ loops n rest → Accepts (moreTeams n fuel) file at s teams
+mounts-read : (file rest : List ℕ) (fuel : ℕ) → ((at : ℕ) (s : State) (teams : List Team) → s .n ≡ 12 → drop at file ≡ rest → Accepts fuel file at s teams)
+    → (n at : ℕ) (s : State) (teams : List Team) → s .m ≡ 64 → s .n + n ≡ 12 → length teams ≡ 12 → drop at file ≡ mounts n rest → Accepts (moreTeams n fuel) file at s teams
 unfolding fault changedState changedTeam
-loops-read file rest fuel after zero at s teams m few long is = after at s teams (omega arith) is
-loops-read file rest fuel after (suc n) at s teams m few long is =
-    let s′ = changedState s (Loops 64) in
-    let team′ = changedTeam (openTeam teams (s .n)) (Loops 64) in
+mounts-read file rest fuel after zero at s teams m few long is = after at s teams (omega arith) is
+mounts-read file rest fuel after (suc n) at s teams m few long is =
+    let s′ = changedState s (Mounts 64) in
+    let team′ = changedTeam (openTeam teams (s .n)) (Mounts 64) in
     let here = stored-open teams (s .n + 1) team′ long (omega arith) (omega arith) in
-    passes (more 64 (moreTeams n fuel)) file at s teams (Loops 64)
-    (command-left file at (loops (suc n) rest) is 3 2 refl refl (omega arith) (omega arith))
+    passes (more 64 (moreTeams n fuel)) file at s teams (Mounts 64)
+    (command-left file at (mounts (suc n) rest) is 8 2 refl refl (omega arith) (omega arith))
     (rw (lt-leb 12 (s .n) (omega arith)) refl)
     refl
-    (spans-read file (loops n rest) (moreTeams n fuel) s′ (λ at′ teams′ long′ is′. loops-read file rest fuel after n at′ s′ teams′ m (omega arith) long′ is′) 64 (at + 2) (changedTeams teams (s .n + 1) team′) (omega arith)
+    (fits-read file (mounts n rest) (moreTeams n fuel) s′ (λ at′ teams′ long′ is′. mounts-read file rest fuel after n at′ s′ teams′ m (omega arith) long′ is′) 64 (at + 2) (changedTeams teams (s .n + 1) team′) (omega arith)
     (record {
       m = m;
       some = omega arith;
@@ -165,5 +165,5 @@ pub longest-accepted : readPlan longest .refusal ≡ 0
 unfolding longest fault changedState changedTeam
 longest-accepted =
     ap (λ (r : Reading). r .refusal) (plan-start longest refl)
-    ∙ passes (moreTeams 12 (suc 2319)) longest 0 start (replicate 12 blankTeam) (Start 1 64) (command-left longest 0 longest refl 1 3 refl refl (omega arith) (omega arith)) refl refl
-    (loops-read longest (7 ∷ []) (suc 2319) (end-read longest 2319) 12 3 (changedState start (Start 1 64)) (replicate 12 blankTeam) refl refl refl refl)
+    ∙ passes (moreTeams 12 (suc 3855)) longest 0 start (replicate 12 blankTeam) (Start 1 64) (command-left longest 0 longest refl 1 3 refl refl (omega arith) (omega arith)) refl refl
+    (mounts-read longest (7 ∷ []) (suc 3855) (end-read longest 3855) 12 3 (changedState start (Start 1 64)) (replicate 12 blankTeam) refl refl refl refl)

@@ -7,7 +7,7 @@ use lib.Dec.{ltb}
 use lib.ListN.{length}
 use Rattle.matroid.specs.Search.{All}
 use Rattle.command.specs.declared.Command.{Command}
-use Rattle.command.specs.declared.Command.the-variants.{Missing, Unknown, Short, Start, Caps, Loops, Class, Put, Span, End}
+use Rattle.command.specs.declared.Command.the-variants.{Missing, Unknown, Short, Start, Caps, Loops, Mounts, Class, Put, Span, Fit, End}
 use Rattle.plan.specs.declared.Reading.{Reading}
 use Rattle.command.specs.declared.State.{State}
 use Rattle.team.specs.declared.Team.{Team}
@@ -30,9 +30,11 @@ rules-small at s team Short = (omega arith, tt)
 rules-small at s team (Start version m) = (omega arith, (omega arith, (omega arith, tt)))
 rules-small at s team (Caps channels) = (omega arith, tt)
 rules-small at s team (Loops channels) = (omega arith, tt)
+rules-small at s team (Mounts channels) = (omega arith, tt)
 rules-small at s team (Class class cap) = (omega arith, (omega arith, (omega arith, tt)))
 rules-small at s team (Put instrument class) = (omega arith, (omega arith, (omega arith, (omega arith, tt))))
 rules-small at s team (Span instrument a b) = (omega arith, (omega arith, (omega arith, (omega arith, (omega arith, (omega arith, tt))))))
+rules-small at s team (Fit instrument a b c d) = (omega arith, (omega arith, (omega arith, tt)))
 rules-small at s team End = (omega arith, tt)
 
 -- and so has the first that is broken

@@ -11,7 +11,7 @@ use lib.ListN.{length, getD, set, replicate, length-set}
 use lib.Seq.{getD-set-same, getD-set-other, ext-getD}
 use borrow.Author.Tests.{lt-ltb, le-ltb, ne-eqb, eqb-true, eqb-false}
 use Rattle.command.specs.declared.Command.{Command}
-use Rattle.command.specs.declared.Command.the-variants.{Missing, Unknown, Short, Start, Caps, Loops, Class, Put, Span, End}
+use Rattle.command.specs.declared.Command.the-variants.{Missing, Unknown, Short, Start, Caps, Loops, Mounts, Class, Put, Span, Fit, End}
 use Rattle.plan.specs.declared.step.Progress.{Progress}
 use Rattle.plan.specs.declared.Reading.{Reading}
 use Rattle.command.specs.declared.State.{State}
@@ -143,9 +143,11 @@ opening s Short = none refl
 opening s (Start version m) = none refl
 opening s (Caps channels) = one refl (λ team team′. refl)
 opening s (Loops channels) = one refl (λ team team′. refl)
+opening s (Mounts channels) = one refl (λ team team′. refl)
 opening s (Class class most) = none refl
 opening s (Put instrument class) = none refl
 opening s (Span instrument a b) = none refl
+opening s (Fit instrument a b c d) = none refl
 opening s End = none refl
 
 -- before the first team a command that breaks no rule leaves the open team blank
@@ -157,9 +159,11 @@ stays-blank at s Short z l = refl
 stays-blank at s (Start version m) z l = refl
 stays-blank at s (Caps channels) z l = absurd (omega arith)
 stays-blank at s (Loops channels) z l = absurd (omega arith)
+stays-blank at s (Mounts channels) z l = absurd (omega arith)
 stays-blank at s (Class class most) z l = absurd (omega arith)
 stays-blank at s (Put instrument class) z l = absurd (omega arith)
 stays-blank at s (Span instrument a b) z l = absurd (omega arith)
+stays-blank at s (Fit instrument a b c d) z l = absurd (omega arith)
 stays-blank at s End z l = refl
 
 -- no command takes a team away
@@ -171,19 +175,21 @@ none-before s Short l = l
 none-before s (Start version m) l = l
 none-before s (Caps channels) l = absurd (omega arith)
 none-before s (Loops channels) l = absurd (omega arith)
+none-before s (Mounts channels) l = absurd (omega arith)
 none-before s (Class class most) l = l
 none-before s (Put instrument class) l = l
 none-before s (Span instrument a b) l = l
+none-before s (Fit instrument a b c d) l = l
 none-before s End l = l
 
 -- Where the loop stands: the teams of the rows are those that have been read, and row 0 is blank.
 pub record Stands (file : List ℕ) (at : ℕ) (s : State) (rows : List ℕ) : Type 0 where
   pub run : Run file at s (teamsIn rows (s .n))
   pub blank : rowAt rows 0 ≡ blankTeam
-  pub long : length rows ≡ 2730
+  pub long : length rows ≡ 4394
 
 -- at the start
-pub stands-start : (file rows : List ℕ) → getD file 0 0 ≡ 1 → length rows ≡ 2730 → rowAt rows 0 ≡ blankTeam → Stands file 0 start rows
+pub stands-start : (file rows : List ℕ) → getD file 0 0 ≡ 1 → length rows ≡ 4394 → rowAt rows 0 ≡ blankTeam → Stands file 0 start rows
 unfolding teamsIn
 stands-start file rows e long blank = record { run = run-start file e; blank = blank; long = long }
 

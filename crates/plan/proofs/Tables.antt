@@ -1,7 +1,7 @@
 -- What the tables of a team can hold, and how many entries a command adds.
 use Prim.Native.Nat.{ℕ, _+_, _≤_, _<_}
-use mathlib.Core.Path.{_≡_, refl, sym, ap, _∙_}
-use mathlib.Core.Bool.{Bool, true, false, not, cond, false≢true}
+use mathlib.Core.Path.{_≡_, refl, ap, _∙_}
+use mathlib.Core.Bool.{Bool, true, false, not, cond}
 use mathlib.Core.Logic.{_⊎_, _≢_}
 use mathlib.Core.List.{List}
 use native.Mathlib.Omega.{arith}
@@ -13,12 +13,12 @@ use borrow.Author.Tests.{ne-eqb}
 use Rattle.matroid.specs.Set.{Set, one, size}
 use Rattle.matroid.specs.SetLaws.{size-change}
 use Rattle.matroid.proofs.Sets.{size-le}
-use Rattle.command.specs.declared.Command.the-variants.{Class, Put, Span}
+use Rattle.command.specs.declared.Command.the-variants.{Class}
 use Rattle.team.specs.declared.Team.{Team}
-use Rattle.team.specs.Team.{capsKind, loopsKind}
+use Rattle.team.specs.Team.{capsKind, loopsKind, mountsKind, openedTeam}
 use Rattle.command.specs.Fault.{named}
-use Rattle.command.specs.Carry.{opened, changedTeam}
-use Rattle.plan.specs.Valid.{ValidTeam}
+use Rattle.command.specs.Carry.{namedTeam, changedTeam}
+use Rattle.plan.specs.Valid.{Naming, unnamed, ValidTeam}
 
 -- ---- what is known where no rule is broken
 
@@ -52,10 +52,10 @@ namedCount-none = refl
 
 -- a table in which an instrument is named that was not
 module _ (table : List ℕ) (i v : ℕ) (long : length table ≡ 64) (l : i < 64) (small : v < 255) where
-  pub named-here : named (set table i v) i ≡ true
+  named-here : named (set table i v) i ≡ true
   named-here = ap (λ (x : ℕ). not (eqb x 255)) (getD-set-same table i v 255 (omega arith)) ∙ ap not (ne-eqb v 255 (omega arith))
 
-  pub named-there : (k : ℕ) → k ≢ i → named (set table i v) k ≡ named table k
+  named-there : (k : ℕ) → k ≢ i → named (set table i v) k ≡ named table k
   named-there k d = ap (λ (x : ℕ). not (eqb x 255)) (getD-set-other table i k v 255 d)
 
   pub namedCount-more : named table i ≡ false → namedCount (set table i v) ≡ namedCount table + 1
@@ -83,97 +83,56 @@ cappedCount-more capped c long l e =
 -- ---- one team
 
 -- nothing is named in a table that has just been made
-pub blank-entry : (i : ℕ) → _≡_ {A = ℕ} (getD (replicate 64 255) i 255) 255
+blank-entry : (i : ℕ) → _≡_ {A = ℕ} (getD (replicate 64 255) i 255) 255
 blank-entry i = elim (decLt i 64) [ yes l ↦ getD-replicate 64 i 255 255 l | no d ↦ List·getD-eq-default (replicate 64 255) 255 {n = i} (omega arith) ]
 
 pub named-none : (i : ℕ) → named (replicate 64 255) i ≡ false
 named-none i = ap (λ (x : ℕ). not (eqb x 255)) (blank-entry i)
 
-pub never : {b : Bool} → b ≡ false → b ≡ true → ⊥
-never f t = false≢true (sym f ∙ t)
-
 -- a team that has just been opened
-pub opened-kept : (m kind channels cap : ℕ) → (kind ≡ capsKind) ⊎ (kind ≡ loopsKind) → ValidTeam m (opened kind channels cap)
+pub opened-kept : (m kind channels cap : ℕ) → (kind ≡ capsKind) ⊎ (kind ≡ loopsKind) ⊎ (kind ≡ mountsKind) → ValidTeam m (openedTeam kind channels cap)
 opened-kept m kind channels cap k = record {
   cap-long = refl;
-  class-long = refl;
+  named-long = refl;
   first-long = refl;
   second-long = refl;
+  third-long = refl;
+  fourth-long = refl;
   kind = k;
-  put-below = λ i e. absurd (never (named-none i) e);
-  span-below = λ i e. absurd (never (named-none i) e);
-  span-both = λ i _. blank-entry i;
+  instrument = λ i. rw (blank-entry i) unnamed;
 }
 
-module _ (m : ℕ) (team : Team) (kept : ValidTeam m team) (small : m ≤ 64) where
+module _ (m : ℕ) (team : Team) (kept : ValidTeam m team) where
   -- a class is capped
   pub class-kept : (class cap : ℕ) → ValidTeam m (changedTeam team (Class class cap))
   unfolding changedTeam
   class-kept class most = record {
     cap-long = length-set (team .cap) class most ∙ kept .cap-long;
-    class-long = kept .class-long;
+    named-long = kept .named-long;
     first-long = kept .first-long;
     second-long = kept .second-long;
+    third-long = kept .third-long;
+    fourth-long = kept .fourth-long;
     kind = kept .kind;
-    put-below = kept .put-below;
-    span-below = kept .span-below;
-    span-both = kept .span-both;
+    instrument = kept .instrument;
   }
 
-  -- an instrument is put in a class
-  pub put-kept : (i class : ℕ) → i < m → class < 16 → ValidTeam m (changedTeam team (Put i class))
-  unfolding changedTeam
-  put-kept i class l c = record {
+  -- a command names an instrument
+  pub named-kept : (i command a b c d : ℕ) → i < 64 → Naming m (team .kind) i command a b c d → ValidTeam m (namedTeam team i command a b c d)
+  named-kept i command a b c d l naming = record {
     cap-long = kept .cap-long;
-    class-long = length-set (team .class) i class ∙ kept .class-long;
-    first-long = kept .first-long;
-    second-long = kept .second-long;
-    kind = kept .kind;
-    put-below = λ k e. go k e (ℕ-discrete k i);
-    span-below = kept .span-below;
-    span-both = kept .span-both;
-  }
-    where
-      long : length (team .class) ≡ 64
-      long = kept .class-long
-
-      go : (k : ℕ) → named (set (team .class) i class) k ≡ true → Dec (k ≡ i) → (k < m) × (getD (set (team .class) i class) k 255 < 16)
-      go k e (yes same) = (omega arith, rw (same, getD-set-same (team .class) i class 255 (omega arith)) c)
-      go k e (no other) = rw (getD-set-other (team .class) i k class 255 other) (kept .put-below k (sym (named-there (team .class) i class long (omega arith) (omega arith) k other) ∙ e))
-
-  -- an instrument is given a span
-  pub span-kept : (i a b : ℕ) → i < m → a < 64 → b < 64 → a ≢ b → ValidTeam m (changedTeam team (Span i a b))
-  unfolding changedTeam
-  span-kept i a b l la lb d = record {
-    cap-long = kept .cap-long;
-    class-long = kept .class-long;
+    named-long = length-set (team .named) i command ∙ kept .named-long;
     first-long = length-set (team .first) i a ∙ kept .first-long;
     second-long = length-set (team .second) i b ∙ kept .second-long;
+    third-long = length-set (team .third) i c ∙ kept .third-long;
+    fourth-long = length-set (team .fourth) i d ∙ kept .fourth-long;
     kind = kept .kind;
-    put-below = kept .put-below;
-    span-below = λ k e. below k e (ℕ-discrete k i);
-    span-both = λ k e. both k e (ℕ-discrete k i);
+    instrument = λ k. go k (ℕ-discrete k i);
   }
     where
-      long : length (team .first) ≡ 64
-      long = kept .first-long
+      here : (table : List ℕ) (v : ℕ) → length table ≡ 64 → getD (set table i v) i 255 ≡ v
+      here table v long = getD-set-same table i v 255 (omega arith)
 
-      long′ : length (team .second) ≡ 64
-      long′ = kept .second-long
-
-      there : (k : ℕ) → k ≢ i → named (set (team .first) i a) k ≡ named (team .first) k
-      there = named-there (team .first) i a long (omega arith) (omega arith)
-
-      below : (k : ℕ) → named (set (team .first) i a) k ≡ true → Dec (k ≡ i)
-          → (k < m) × (getD (set (team .first) i a) k 255 < 64) × (getD (set (team .second) i b) k 255 < 64) × (getD (set (team .first) i a) k 255 ≢ getD (set (team .second) i b) k 255)
-      below k e (yes same) = (
-        omega arith,
-        rw (same, getD-set-same (team .first) i a 255 (omega arith)) la,
-        rw (same, getD-set-same (team .second) i b 255 (omega arith)) lb,
-        rw (same, getD-set-same (team .first) i a 255 (omega arith), getD-set-same (team .second) i b 255 (omega arith)) d,
-      )
-      below k e (no other) = rw (getD-set-other (team .first) i k a 255 other, getD-set-other (team .second) i k b 255 other) (kept .span-below k (sym (there k other) ∙ e))
-
-      both : (k : ℕ) → named (set (team .first) i a) k ≡ false → Dec (k ≡ i) → getD (set (team .second) i b) k 255 ≡ 255
-      both k e (yes same) = absurd (never (rw same at e) (named-here (team .first) i a long (omega arith) (omega arith)))
-      both k e (no other) = getD-set-other (team .second) i k b 255 other ∙ kept .span-both k (sym (there k other) ∙ e)
+      go : (k : ℕ) → Dec (k ≡ i) → Naming m (team .kind) k (getD (set (team .named) i command) k 255) (getD (set (team .first) i a) k 255) (getD (set (team .second) i b) k 255) (getD (set (team .third) i c) k 255) (getD (set (team .fourth) i d) k 255)
+      go k (yes same) = rw (same, here (team .named) command (kept .named-long), here (team .first) a (kept .first-long), here (team .second) b (kept .second-long), here (team .third) c (kept .third-long), here (team .fourth) d (kept .fourth-long)) naming
+      go k (no other) = rw (getD-set-other (team .named) i k command 255 other, getD-set-other (team .first) i k a 255 other, getD-set-other (team .second) i k b 255 other, getD-set-other (team .third) i k c 255 other, getD-set-other (team .fourth) i k d 255 other) (kept .instrument k)

@@ -1,4 +1,4 @@
--- Reading one command: what the functions of `step` come to. The teams stand in a table of thirteen rows of 210 bytes: row 0 stays blank, and
+-- Reading one command: what the functions of `step` come to. The teams stand in a table of thirteen rows of 338 bytes: row 0 stays blank, and
 -- row n is the team opened n-th.
 use Prim.Native.Nat.{ℕ, _+_, _*_, _≤_}
 use mathlib.Core.Path.{_≡_}
@@ -20,7 +20,7 @@ use Rattle.plan.specs.Read.{refused, finished, readPlan}
 
 -- the team of row k
 unfoldable pub rowAt : List ℕ → ℕ → Team
-rowAt rows k = rowTeam (part rows (210 * k) 210)
+rowAt rows k = rowTeam (part rows (338 * k) 338)
 
 -- the teams of rows 1 to n, and blank ones beyond
 unfoldable pub teamsIn : List ℕ → ℕ → List Team

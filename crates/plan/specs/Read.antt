@@ -14,7 +14,16 @@ use Rattle.team.specs.Team.{blankTeam}
 
 -- a team in an answer that refuses
 abbrev pub zeroTeam : Team
-zeroTeam = record { kind = 0; channels = 0; cap = replicate 16 0; class = replicate 64 0; first = replicate 64 0; second = replicate 64 0 }
+zeroTeam = record {
+  kind = 0;
+  channels = 0;
+  cap = replicate 16 0;
+  named = replicate 64 0;
+  first = replicate 64 0;
+  second = replicate 64 0;
+  third = replicate 64 0;
+  fourth = replicate 64 0;
+}
 
 -- "A refusal answers its number and place; ... every other part of the answer is then 0."
 abbrev pub refused : (number place : ℕ) → Reading

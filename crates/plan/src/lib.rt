@@ -34,9 +34,11 @@ fn refuse(refusal: usize, place: usize) -> Reading
         kind: 0,
         channels: 0,
         cap: [0u8; 16],
-        class: [0u8; 64],
+        named: [0u8; 64],
         first: [0u8; 64],
         second: [0u8; 64],
+        third: [0u8; 64],
+        fourth: [0u8; 64],
     };
     Reading {
         refusal,
@@ -68,7 +70,7 @@ fn finish(file: &[u8], at: usize, s: State, teams: [Team; 12]) -> Reading
 // Reads the commands of a file whose first byte is 01 into rows of teams: a reader hands out one after another, until one breaks a rule or is
 // an END in its place. It holds the reader, so it is proved by hand, and `step` does the work.
 fn read_commands(file: &[u8], rows: &mut [u8]) -> Progress
-    requires { ⌜ (getD (now file) 0 0 ≡ 1) × (length (now rows) ≡ 2730) × (rowAt (now rows) 0 ≡ blankTeam) ⌝ }
+    requires { ⌜ (getD (now file) 0 0 ≡ 1) × (length (now rows) ≡ 4394) × (rowAt (now rows) 0 ≡ blankTeam) ⌝ }
     ensures { λ r. ⌜ Ended (now (file .entry)) r (now (rows .exit)) ⌝ }
 {
     let mut reader = Reader::new(file);
@@ -103,12 +105,11 @@ pub fn valuations_of(r: Reading) -> [Valuation; 12]
     ensures { λ v. ⌜ v ≡ valuationsOf r ⌝ }
 {
     let n = r.n;
-    let teams = r.teams;
     let usable = sets::all_below(r.m);
     let none = kinds::blank();
     let mut valuations = [none; 12];
     for t in 0..n {
-        let team = teams[t];
+        let team = r.teams[t];
         valuations[t] = Valuation {
             team,
             usable,

@@ -12,7 +12,7 @@ use command::judge;
 use command::row;
 use team::Team;
 
-// How many bytes the table of thirteen rows has: 2,730.
+// How many bytes the table of thirteen rows has: 4,394.
 pub const TABLE: usize = 13 * row::WIDTH;
 
 // What has been read besides the teams; where reading has stopped, the rule that is broken (0: none, at an END) and the offset.
@@ -25,7 +25,7 @@ pub struct Progress {
 
 // Follows a command at an offset: reading stops there, or the command is carried out.
 pub fn follow(rows: &mut [u8], s: State, at: usize, command: Command) -> Progress
-    requires { ⌜ (length (now rows) ≡ 2730) × (s .n ≤ 12) ⌝ }
+    requires { ⌜ (length (now rows) ≡ 4394) × (s .n ≤ 12) ⌝ }
     ensures { λ r. ⌜ Followed (now (rows .entry)) at s command r (now (rows .exit)) ⌝ }
 {
     let open = row::WIDTH * s.n;
@@ -59,7 +59,7 @@ pub fn follow(rows: &mut [u8], s: State, at: usize, command: Command) -> Progres
 
 // The teams of the first n rows after the blank one, and blank ones beyond.
 fn teams(rows: &[u8], n: usize) -> [Team; 12]
-    requires { ⌜ (length (now rows) ≡ 2730) × (n ≤ 12) ⌝ }
+    requires { ⌜ (length (now rows) ≡ 4394) × (n ≤ 12) ⌝ }
     ensures { λ r. ⌜ r ≡ teamsIn (now (rows .entry)) n ⌝ }
 {
     let mut teams = [team::blank(); 12];
@@ -74,7 +74,7 @@ fn teams(rows: &[u8], n: usize) -> [Team; 12]
 
 // The answer where reading has stopped.
 pub fn answer(file: &[u8], p: Progress, rows: &[u8]) -> Reading
-    requires { ⌜ (length (now rows) ≡ 2730) × (p .s .n ≤ 12) ⌝ }
+    requires { ⌜ (length (now rows) ≡ 4394) × (p .s .n ≤ 12) ⌝ }
     ensures { λ r. ⌜ r ≡ answered (now (file .entry)) p (now (rows .entry)) ⌝ }
 {
     if p.fault != 0 {

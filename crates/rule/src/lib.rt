@@ -1,7 +1,10 @@
-// For tests: independence, worth and gains as document 01 defines them, computed in other ways than the crate `kinds` uses. A worth is found by
-// trying each part of a set; a closed loop by trimming: where a joint has one gauge only, that gauge is in no loop.
+// For tests: independence, worth and gains as documents 01 and 02 define them, computed in other ways than the crate `kinds` uses. A worth is
+// found by trying each part of a set; a closed loop by trimming: where a joint has one gauge only, that gauge is in no loop; mounts by Hall's
+// condition.
 ghost use Prim.Native.Nat.{_≤_};
 use team::Team;
+
+mod mounts;
 
 // The members of a set that are of a class.
 fn of_class(class: [u8; 64], set: u64, c: usize) -> u64 {
@@ -125,7 +128,7 @@ fn loop_free(first: [u8; 64], second: [u8; 64], set: u64) -> bool {
 
 // Independence for a CAPS team, channels aside.
 fn caps_allow(team: Team, set: u64) -> bool {
-    let class = team.class;
+    let class = team.first;
     let cap = team.cap;
     if !all_put(class, set) {
         return false;
@@ -153,6 +156,7 @@ pub fn independent(team: Team, set: u64) -> bool {
     match kind {
         2 => caps_allow(team, set),
         3 => loops_allow(team, set),
+        8 => mounts::allow(team, set),
         _ => set == 0,
     }
 }

@@ -2,17 +2,21 @@
 ghost use Prim.Native.Nat.{_≤_};
 use team::Team;
 
-// What each part of a plan is drawn from: eight bytes for the count of instruments, the count of teams, and a team's kind, channels,
-// classes, caps and joints.
+// What each part of a plan is drawn from: eight bytes for the count of instruments, the count of teams, and a team's kind, channels, caps,
+// classes, joints and mounts; a byte of the mounts stands for eight.
 pub struct Family {
     pub counts: [u8; 8],
     pub teams: [u8; 8],
     pub kinds: [u8; 8],
     pub channels: [u8; 8],
-    pub classes: [u8; 8],
     pub caps: [u8; 8],
+    pub classes: [u8; 8],
     pub joints: [u8; 8],
+    pub mounts: [u8; 8],
 }
+
+// The command that names an instrument of a MOUNTS team: a FIT, or none for one of eight.
+const NAMED: [u8; 8] = [9, 9, 9, 9, 9, 9, 9, 255];
 
 // A table of bytes, and the last number drawn for it.
 struct Table {
@@ -85,32 +89,56 @@ fn others(first: [u8; 64], drawn: [u8; 64]) -> [u8; 64] {
     second
 }
 
+// What the operands of a team of a kind are drawn from.
+fn choice(f: Family, kind: u8) -> [u8; 8] {
+    match kind {
+        2 => f.classes,
+        3 => f.joints,
+        _ => f.mounts,
+    }
+}
+
+// A team of a kind.
+fn of_kind(f: Family, kind: u8, x: u64) -> DrawnTeam {
+    let channels = f.channels;
+    let caps = f.caps;
+    let own = choice(f, kind);
+    let a = entries(x, own);
+    let b = entries(a.x, own);
+    let c = entries(b.x, own);
+    let d = entries(c.x, own);
+    let names = entries(d.x, NAMED);
+    let most = entries(names.x, caps);
+    let z = next(most.x);
+    let first = a.bytes;
+    let drawn = b.bytes;
+    let third = c.bytes;
+    let fourth = d.bytes;
+    let named = names.bytes;
+    let cap = most.bytes;
+    let second = if kind == 3 {
+        others(first, drawn)
+    } else {
+        drawn
+    };
+    let team = Team {
+        kind,
+        channels: pick(z, channels),
+        cap: caps_of(cap),
+        named,
+        first,
+        second,
+        third,
+        fourth,
+    };
+    DrawnTeam { team, x: z }
+}
+
 // A team.
 fn member(f: Family, x: u64) -> DrawnTeam {
     let kinds = f.kinds;
-    let channels = f.channels;
-    let joints = f.joints;
-    let classes = f.classes;
-    let caps = f.caps;
-    let class = entries(x, classes);
-    let one = entries(class.x, joints);
-    let two = entries(one.x, joints);
-    let most = entries(two.x, caps);
-    let y = next(most.x);
-    let z = next(y);
-    let class_bytes = class.bytes;
-    let first = one.bytes;
-    let drawn = two.bytes;
-    let most_bytes = most.bytes;
-    let team = Team {
-        kind: pick(y, kinds),
-        channels: pick(z, channels),
-        cap: caps_of(most_bytes),
-        class: class_bytes,
-        first,
-        second: others(first, drawn),
-    };
-    DrawnTeam { team, x: z }
+    let y = next(x);
+    of_kind(f, pick(y, kinds), y)
 }
 
 // A count of instruments: a byte, and 5 where that is greater.

@@ -64,20 +64,42 @@ fn spans(out: &mut [u8; 128], at: usize, m: usize, first: [u8; 64], second: [u8;
     end
 }
 
+// A FIT for each of m instruments that a FIT names.
+fn fits(out: &mut [u8; 128], at: usize, m: usize, t: Team) -> usize
+    requires { ⌜ m ≤ 5 ⌝ }
+{
+    let named = t.named;
+    let first = t.first;
+    let second = t.second;
+    let third = t.third;
+    let fourth = t.fourth;
+    let mut end = at;
+    for g in 0..m {
+        if named[g] == 9 {
+            let next = two(out, end, 9, g as u8);
+            let half = two(out, next, first[g], second[g]);
+            end = two(out, half, third[g], fourth[g]);
+        }
+    }
+    end
+}
+
 // A team.
 fn team(out: &mut [u8; 128], at: usize, m: usize, t: Team) -> usize
     requires { ⌜ m ≤ 5 ⌝ }
 {
     let cap = t.cap;
-    let class = t.class;
     let first = t.first;
     let second = t.second;
     let open = two(out, at, t.kind, t.channels);
     if t.kind == 2 {
         let next = classes(out, open, cap);
-        return puts(out, next, m, class);
+        return puts(out, next, m, first);
     }
-    spans(out, open, m, first, second)
+    if t.kind == 3 {
+        return spans(out, open, m, first, second);
+    }
+    fits(out, open, m, t)
 }
 
 // A whole plan: the answer is how many bytes it has.

@@ -20,9 +20,10 @@ fn caps() -> Family {
         teams: [3, 3, 3, 3, 2, 2, 2, 1],
         kinds: [2, 2, 2, 2, 2, 2, 2, 2],
         channels: [0, 1, 2, 2, 3, 3, 5, 255],
-        classes: [0, 0, 1, 1, 2, 3, 4, 255],
         caps: [0, 1, 1, 1, 1, 2, 2, 3],
-        joints: [0, 1, 2, 3, 0, 1, 2, 3],
+        classes: [0, 0, 1, 1, 2, 3, 4, 255],
+        joints: [0, 0, 1, 1, 2, 2, 3, 255],
+        mounts: [0, 0, 0, 0, 0, 0, 1, 1],
     }
 }
 
@@ -30,14 +31,28 @@ fn caps() -> Family {
 fn loops() -> Family {
     let mut f = caps();
     f.kinds = [3u8; 8];
-    f.joints = [0, 0, 1, 1, 2, 2, 3, 255];
     f
 }
 
-// Teams of both kinds, whose operands are scarce.
+// MOUNTS teams on four mounts, each of them the first of a byte.
+fn mounts() -> Family {
+    let mut f = caps();
+    f.kinds = [8u8; 8];
+    f
+}
+
+// MOUNTS teams whose masks are sparse or full.
+fn masks() -> Family {
+    let mut f = mounts();
+    f.channels = [2, 3, 4, 5, 5, 5, 255, 255];
+    f.mounts = [0, 0, 0, 0, 0, 2, 128, 255];
+    f
+}
+
+// Teams of every kind, whose operands are scarce.
 fn mixed() -> Family {
     let mut f = caps();
-    f.kinds = [2, 3, 2, 3, 2, 3, 2, 3];
+    f.kinds = [2, 3, 8, 2, 3, 8, 2, 8];
     f.classes = [0, 0, 0, 1, 1, 2, 255, 255];
     f.joints = [0, 0, 0, 1, 1, 2, 63, 255];
     f
@@ -46,12 +61,14 @@ fn mixed() -> Family {
 // One team that takes nearly everything beside teams that take little.
 fn uneven() -> Family {
     let mut f = caps();
-    f.kinds = [2, 2, 3, 2, 2, 3, 2, 2];
+    f.kinds = [2, 2, 3, 2, 8, 3, 2, 8];
     f.counts = [5u8; 8];
     f.teams = [2, 3, 2, 3, 2, 3, 2, 3];
     f.channels = [5, 5, 5, 5, 5, 5, 255, 255];
-    f.classes = [0, 0, 1, 1, 1, 2, 2, 255];
     f.caps = [1, 1, 1, 2, 5, 5, 5, 255];
+    f.classes = [0, 0, 1, 1, 1, 2, 2, 255];
+    f.joints = [0, 1, 2, 3, 0, 1, 2, 3];
+    f.mounts = [0, 0, 0, 0, 0, 1, 1, 255];
     f
 }
 
@@ -76,12 +93,19 @@ fn run(name: &[u8], f: Family, seed: u64, before: Counts) -> Counts {
     counts::plus(before, c)
 }
 
-// Four families of plans, and the counts of all together.
+// Six families of plans, and the counts of all together.
 fn main() {
     let a = run(b"CAPS teams", caps(), 20201, counts::none());
     let b = run(b"LOOPS teams", loops(), 20202, a);
-    let c = run(b"teams of both kinds", mixed(), 20203, b);
-    let d = run(b"uneven teams", uneven(), 20204, c);
+    let c = run(b"MOUNTS teams on four mounts", mounts(), 20203, b);
+    let d = run(
+        b"MOUNTS teams with sparse and full masks",
+        masks(),
+        20204,
+        c,
+    );
+    let e = run(b"teams of every kind", mixed(), 20205, d);
+    let f = run(b"uneven teams", uneven(), 20206, e);
     print::text(b"all\n");
-    counts::show(d);
+    counts::show(f);
 }

@@ -8,11 +8,13 @@ pub struct Team {
     pub channels: u8,
     // the cap of each class
     pub cap: [u8; 16],
-    // the class of each instrument
-    pub class: [u8; 64],
-    // the two joints of each instrument's span
+    // the byte of the command that names each instrument: 05 PUT, 06 SPAN or 09 FIT
+    pub named: [u8; 64],
+    // the operands of that command after the instrument: PUT's class, SPAN's two joints, FIT's mounts (32 bits, low byte first)
     pub first: [u8; 64],
     pub second: [u8; 64],
+    pub third: [u8; 64],
+    pub fourth: [u8; 64],
 }
 
 // A team of which the file names nothing.
@@ -23,8 +25,10 @@ pub fn blank() -> Team
         kind: 255,
         channels: 255,
         cap: [255u8; 16],
-        class: [255u8; 64],
+        named: [255u8; 64],
         first: [255u8; 64],
         second: [255u8; 64],
+        third: [255u8; 64],
+        fourth: [255u8; 64],
     }
 }

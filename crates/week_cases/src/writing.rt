@@ -3,11 +3,11 @@ use crate::numbers;
 use crate::sheets;
 use builder::Built;
 
-// `week PLAN`: what the program `divide` prints of a plan.
+// `week PLAN`: what the program `divide` prints of a plan. Of the plan the first 8,192 bytes are read.
 fn week(operands: &[u8], buffer: &mut [u8]) -> Built {
-    let mut plan = io::buffer();
+    let mut plan = [0u8; 8192];
     let k = lines::decode(operands, &mut plan);
-    listing::week(&plan[..k], buffer)
+    listing::week(lines::front(&plan, k), buffer)
 }
 
 // `line NUMBER PLACE`: the line of a refusal.

@@ -7,12 +7,12 @@ use kinds::Valuation;
 use lines::print;
 use team::Team;
 
-// How many bytes a command has: at most four.
+// How many bytes a command has: at most six.
 fn width(command: Command) -> usize
-    ensures { λ r. ⌜ r ≤ 4 ⌝ }
+    ensures { λ r. ⌜ r ≤ 6 ⌝ }
 {
     let w = command::decode::width(command);
-    if w < 4 { w } else { 4 }
+    if w < 6 { w } else { 6 }
 }
 
 // The team that the commands after the tenth byte fill, by no rule but the tables' sizes.

@@ -1,4 +1,4 @@
-// Worth and gains by a valuation as document 01's words define them, by the crate `rule`: what a set adds to the glued instruments.
+// Worth and gains by a valuation as the words of documents 01 and 02 define them, by the crate `rule`: what a set adds to the glued instruments.
 ghost use Prim.Native.Nat.{_≤_};
 use kinds::Valuation;
 use std::num::wrapping_sub_u64;

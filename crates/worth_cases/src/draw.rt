@@ -3,14 +3,15 @@ ghost use Prim.Native.Nat.{_≤_, _<_};
 use kinds::Valuation;
 use team::Team;
 
-// What each part of a case is drawn from: eight bytes for the kind, the count of instruments, the channels, a class, a cap and a joint.
+// What each part of a case is drawn from: eight bytes for the kind, the count of instruments, the channels, a cap, the command that names an
+// instrument, and each operand of that command after the instrument: a class, a joint or eight mounts.
 pub struct Family {
     pub kinds: [u8; 8],
     pub counts: [u8; 8],
     pub channels: [u8; 8],
-    pub classes: [u8; 8],
     pub caps: [u8; 8],
-    pub joints: [u8; 8],
+    pub named: [u8; 8],
+    pub operands: [u8; 8],
 }
 
 // A table of bytes, and the last number drawn for it.
@@ -22,6 +23,15 @@ struct Table {
 // A set, and the last number drawn for it.
 struct Word {
     set: u64,
+    x: u64,
+}
+
+// The four operands of each instrument's command, and the last number drawn for them.
+struct Four {
+    first: [u8; 64],
+    second: [u8; 64],
+    third: [u8; 64],
+    fourth: [u8; 64],
     x: u64,
 }
 
@@ -70,30 +80,52 @@ fn front(bytes: [u8; 64]) -> [u8; 16] {
     part
 }
 
+// Operands, each one of eight bytes.
+fn operands(x: u64, choice: [u8; 8]) -> Four {
+    let a = entries(x, choice);
+    let b = entries(a.x, choice);
+    let c = entries(b.x, choice);
+    let d = entries(c.x, choice);
+    let first = a.bytes;
+    let second = b.bytes;
+    let third = c.bytes;
+    let fourth = d.bytes;
+    Four {
+        first,
+        second,
+        third,
+        fourth,
+        x: d.x,
+    }
+}
+
 // A team of a family.
 fn filled(f: Family, x: u64) -> DrawnTeam {
     let kinds = f.kinds;
     let channels = f.channels;
-    let joints = f.joints;
-    let classes = f.classes;
     let caps = f.caps;
-    let class = entries(x, classes);
-    let first = entries(class.x, joints);
-    let second = entries(first.x, joints);
-    let cap = entries(second.x, caps);
-    let y = next(cap.x);
+    let commands = f.named;
+    let choice = f.operands;
+    let o = operands(x, choice);
+    let names = entries(o.x, commands);
+    let most = entries(names.x, caps);
+    let y = next(most.x);
     let z = next(y);
-    let class_bytes = class.bytes;
-    let first_bytes = first.bytes;
-    let second_bytes = second.bytes;
-    let cap_bytes = cap.bytes;
+    let cap = most.bytes;
+    let named = names.bytes;
+    let first = o.first;
+    let second = o.second;
+    let third = o.third;
+    let fourth = o.fourth;
     let team = Team {
         kind: pick(y, kinds),
         channels: pick(z, channels),
-        cap: front(cap_bytes),
-        class: class_bytes,
-        first: first_bytes,
-        second: second_bytes,
+        cap: front(cap),
+        named,
+        first,
+        second,
+        third,
+        fourth,
     };
     DrawnTeam { team, x: z }
 }

@@ -1,4 +1,4 @@
-// Worth and gains beside document 01's own words, on random valuations and on chosen teams. Each line of standard input is answered by one
+// Worth and gains beside the documents' own words, on random valuations and on chosen teams. Each line of standard input is answered by one
 // line. An empty line and one that starts with `#` come back as they are; any other line is a verb and its operands.
 use libc::STDIN_FILENO;
 use lines::print;

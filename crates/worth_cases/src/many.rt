@@ -100,9 +100,9 @@ fn family(bytes: &[u8; 4096]) -> Family {
         kinds: row(bytes, 0),
         counts: row(bytes, 1),
         channels: row(bytes, 2),
-        classes: row(bytes, 3),
-        caps: row(bytes, 4),
-        joints: row(bytes, 5),
+        caps: row(bytes, 3),
+        named: row(bytes, 4),
+        operands: row(bytes, 5),
     }
 }
 

@@ -69,6 +69,18 @@ fn rows() -> Vec<Row> {
         on("LOOPS, sparse: 64 joints", loops(&mut random, 64)),
         on("LOOPS, 16 joints", loops(&mut random, 16)),
         on("LOOPS, dense: 6 joints", loops(&mut random, 6)),
+        on(
+            "MOUNTS, sparse: 2 of 32 mounts",
+            mounts(|_| 1 << random.below(32) | 1 << random.below(32)),
+        ),
+        on(
+            "MOUNTS, dense: half of 32 mounts",
+            mounts(|_| random.word() as u32),
+        ),
+        on(
+            "MOUNTS, neighbours in a row",
+            mounts(|item| 1 << (item / 2) | 1 << ((item / 2 + 1) % 32)),
+        ),
     ]
 }
 
@@ -92,6 +104,16 @@ fn loops(random: &mut Random, joints: usize) -> Vec<u8> {
     for item in 0..64 {
         let (a, b) = two_joints(random, joints);
         plan.span(item, a, b);
+    }
+    plan.end()
+}
+
+/// A plan of one MOUNTS team, channels never short, with the mounts that each instrument fits.
+fn mounts(mut fits: impl FnMut(usize) -> u32) -> Vec<u8> {
+    let mut plan = PlanWriter::start(64);
+    plan.mounts(255);
+    for item in 0..64 {
+        plan.fit(item, fits(item));
     }
     plan.end()
 }
@@ -152,7 +174,7 @@ fn grown(set: u64, gains: u64, word: u64) -> u64 {
 fn classes(team: &Team) -> &Classes {
     match &team.kind {
         Kind::Caps(classes) => classes,
-        Kind::Loops(_) => unreachable!("a CAPS team"),
+        _ => unreachable!("a CAPS team"),
     }
 }
 

@@ -6,6 +6,7 @@ use pool::plan::{operand_count, Plan};
 use pool::random::Random;
 use pool::sample::any_plan;
 use pool::sheet::Layout;
+use pool::writer::PlanWriter;
 
 /// The number of small cases; POOL_CASES asks for a longer run.
 pub fn cases() -> usize {
@@ -31,6 +32,77 @@ pub fn hex(text: &str) -> Vec<u8> {
     bytes
         .map(|byte| u8::from_str_radix(byte, 16).expect("hexadecimal"))
         .collect()
+}
+
+/// Faulty plans with MOUNTS and FIT: the bytes, the refusal's number and its place.
+pub const MOUNTS_FAULTS: [(&str, u8, usize); 35] = [
+    ("08 09 07", 1, 0),
+    ("09 00 01 00 00 00", 1, 0),
+    ("01 01 02 08", 2, 3),
+    ("01 01 02 08 09", 2, 5),
+    ("01 01 02 08 09 09", 2, 5),
+    ("01 01 02 08 09 09 00", 2, 5),
+    ("01 01 02 08 09 09 00 01", 2, 5),
+    ("01 01 02 08 09 09 00 01 00", 2, 5),
+    ("01 01 02 08 09 09 00 01 00 00", 2, 5),
+    ("01 01 02 08 09 09 00 01 00 00 00", 2, 11),
+    ("01 01 02 08 09 09 00 01 00 00 07", 2, 11),
+    ("01 01 02 08 09 09 02 01 00 07", 2, 5),
+    ("01 01 02 02 09 09 00 01 00 07", 2, 5),
+    ("01 01 02 09 00 01", 2, 3),
+    ("01 01 02 0A", 3, 3),
+    ("01 01 02 08 09 0A 00 01 00 00 00 07", 3, 5),
+    ("01 01 02 08 09 FF", 3, 5),
+    ("01 01 02 09 00 01 00 00 00 07", 4, 3),
+    ("01 01 02 02 09 09 00 01 00 00 00 07", 4, 5),
+    ("01 01 02 03 09 09 02 01 00 00 00 07", 4, 5),
+    ("01 01 02 08 09 02 09 09 00 01 00 00 00 07", 4, 7),
+    ("01 01 02 08 09 04 10 01 07", 4, 5),
+    ("01 01 02 08 09 05 02 00 07", 4, 5),
+    ("01 01 02 08 09 06 00 01 01 07", 4, 5),
+    ("01 01 02 08 09 01 01 02 07", 4, 5),
+    ("01 01 02 08 09 09 02 01 00 00 00 07", 5, 5),
+    ("01 01 02 08 09 09 FF 00 00 00 00 07", 5, 5),
+    ("01 01 00 08 09 09 00 01 00 00 00 07", 5, 5),
+    ("01 01 41 08 09 07", 5, 0),
+    (
+        "01 01 02 08 09 09 01 01 00 00 00 09 01 01 00 00 00 07",
+        6,
+        11,
+    ),
+    (
+        "01 01 02 08 09 09 01 00 00 00 00 09 01 02 00 00 00 07",
+        6,
+        11,
+    ),
+    (
+        "01 01 02 08 09 09 01 02 00 00 00 09 01 00 00 00 00 07",
+        6,
+        11,
+    ),
+    (
+        "01 01 02 08 09 09 01 00 00 00 00 09 01 00 00 00 00 07",
+        6,
+        11,
+    ),
+    (
+        "01 01 02 08 09 09 00 FF FF FF FF 09 00 FF FF FF FF 07",
+        6,
+        11,
+    ),
+    ("01 01 02 08 09 07 00", 9, 6),
+];
+
+/// The longest plan before its END: twelve MOUNTS teams, each instrument fitting two mounts.
+pub fn longest_plan() -> PlanWriter {
+    let mut plan = PlanWriter::start(64);
+    for _ in 0..12 {
+        plan.mounts(255);
+        for item in 0..64 {
+            plan.fit(item, 1 << (item % 32) | 1 << ((item + 1) % 32));
+        }
+    }
+    plan
 }
 
 /// A sheet built by this crate.
@@ -105,7 +177,7 @@ pub fn damage_commands(random: &mut Random, plan: &[u8]) -> Vec<u8> {
             row[at][place] = random.pick(&edges);
         }
         _ => {
-            let opening = random.pick(&[0x02, 0x03]);
+            let opening = random.pick(&[0x02, 0x03, 0x08]);
             let more = random.between(1, 13);
             row.splice(at..at, (0..more).map(|_| vec![opening, 9]));
         }
@@ -121,9 +193,12 @@ pub fn loose_commands(random: &mut Random) -> Vec<u8> {
         out.extend([0x01, random.pick(&[1, 1, 1, 1, 1, 1, 0, 2]), count]);
     }
     for _ in 0..random.below(24) {
-        let byte = random.pick(&[2, 3, 3, 4, 4, 5, 5, 5, 6, 6, 6, 1, 7, 0, 8]);
-        let usual = random.chance(3, 4);
-        let byte = if usual { byte.clamp(2, 6) } else { byte };
+        let usual = random.pick(&[2, 2, 3, 3, 3, 4, 4, 5, 5, 5, 6, 6, 6, 6, 6, 8, 8, 9, 9, 9]);
+        let byte = if random.chance(1, 16) {
+            random.pick(&[1, 7, 0, 10, 255])
+        } else {
+            usual
+        };
         out.push(byte);
         for _ in 0..operand_count(byte).unwrap_or(0) {
             out.push(random.pick(&[0, 0, 1, 1, 2, 3, 4, 15, 16, 63, 64]));

@@ -11,13 +11,13 @@ use Rattle.plan.proofs.valuations_of.Statement.{statement}
 use Rattle.plan.proofs.valuations_of.Tie as tie
 
 abbrev Inv-loop : tie.InvT-loop
-Inv-loop n teams usable valuations₀ t₀ valuations t = (t ≤ n) × Tabled (valuedAt teams usable) blankValuation t valuations
+Inv-loop r n usable valuations₀ t₀ valuations t = (t ≤ n) × Tabled (valuedAt (r .teams) usable) blankValuation t valuations
 
 abbrev μ-loop : tie.MeasureT-loop
-μ-loop n teams usable valuations₀ t₀ valuations t = n - t
+μ-loop r n usable valuations₀ t₀ valuations t = n - t
 
 all-below-requires : tie.Need-all-below-requires Inv-loop μ-loop
-all-below-requires c κs = c .before .pre .small
+all-below-requires c κs = c .pre .small
 
 blank-requires : tie.Need-blank-requires Inv-loop μ-loop
 blank-requires c κs = search needs
@@ -28,8 +28,8 @@ loop-holds c = (search needs, tabled-none _ _ _ (c .blank .ensures))
 mul-team : tie.Need-mul-team Inv-loop μ-loop
 mul-team c = search needs
 
-array-copy-out-team : tie.Need-array-copy-out-team Inv-loop μ-loop
-array-copy-out-team c = search needs
+element-copy-out-team : tie.Need-element-copy-out-team Inv-loop μ-loop
+element-copy-out-team c = search needs
 
 mul-valuations : tie.Need-mul-valuations Inv-loop μ-loop
 mul-valuations c = search needs
@@ -45,16 +45,16 @@ loop-less c = search needs
 
 loop-again : tie.Need-loop-again Inv-loop μ-loop
 loop-again c =
-    let valid = c .before .before .before .before .before .before .pre in
+    let valid = c .before .before .before .before .before .pre in
     let l : c .before .before .loop .t < 12 = omega (arith, c .before .loop-test .taken, valid .few) in
-    let wide : c .before .before .loop .t < length (c .before .before .before .before .before .before .args .r .teams) = omega (arith, valid .teams-long) in
-    (search needs, tabled-next _ _ _ _ (c .before .before .loop .inv .1) l _ (valued-at (c .before .before .before .before .before .before .args .r .teams) _ _ _ _ wide refl))
+    let wide : c .before .before .loop .t < length (c .before .before .before .before .before .args .t1 .teams) = omega (arith, valid .teams-long) in
+    (search needs, tabled-next _ _ _ _ (c .before .before .loop .inv .1) l _ (valued-at (c .before .before .before .before .before .args .t1 .teams) _ _ _ _ wide refl))
 
 returns : tie.Need-returns Inv-loop μ-loop
 returns c =
-    let e : c .before .loop .t ≡ c .before .before .before .before .before .args .r .n = omega arith in
+    let e : c .before .loop .t ≡ c .before .before .before .before .args .t1 .n = omega arith in
     let all = c .before .before .before .all-below in
-    valued-all _ _ _ (below-word _ _ (c .before .before .before .before .before .pre .small) (all .ok) (all .ensures)) (rw e at (c .before .loop .inv .1))
+    valued-all _ _ _ (below-word _ _ (c .before .before .before .before .pre .small) (all .ok) (all .ensures)) (rw e at (c .before .loop .inv .1))
 
 pub valuations-of-spec : {M : Type 1} → statement M
 valuations-of-spec =
@@ -66,7 +66,7 @@ valuations-of-spec =
     blank-requires
     loop-holds
     mul-team
-    array-copy-out-team
+    element-copy-out-team
     mul-valuations
     array-set-from-valuations
     add-t

@@ -30,20 +30,32 @@ open-requires-2 c κs = search needs
 enum-known-command-3 : tie.Need-enum-known-command-3
 enum-known-command-3 c = search needs
 
-set-cap-requires : tie.Need-set-cap-requires
-set-cap-requires c κs = search needs
+open-requires-3 : tie.Need-open-requires-3
+open-requires-3 c κs = search needs
 
 enum-known-command-4 : tie.Need-enum-known-command-4
 enum-known-command-4 c = search needs
 
-set-class-requires : tie.Need-set-class-requires
-set-class-requires c κs = search needs
+set-cap-requires : tie.Need-set-cap-requires
+set-cap-requires c κs = search needs
 
 enum-known-command-5 : tie.Need-enum-known-command-5
 enum-known-command-5 c = search needs
 
-set-span-requires : tie.Need-set-span-requires
-set-span-requires c κs = search needs
+set-named-requires : tie.Need-set-named-requires
+set-named-requires c κs = search needs
+
+enum-known-command-6 : tie.Need-enum-known-command-6
+enum-known-command-6 c = search needs
+
+set-named-requires-2 : tie.Need-set-named-requires-2
+set-named-requires-2 c κs = search needs
+
+enum-known-command-7 : tie.Need-enum-known-command-7
+enum-known-command-7 c = search needs
+
+set-named-requires-3 : tie.Need-set-named-requires-3
+set-named-requires-3 c κs = search needs
 
 enum-told-5 : tie.Need-enum-told-5
 enum-told-5 c = search needs
@@ -83,25 +95,39 @@ same-length-3 c = search needs
 
 returns-7 : tie.Need-returns-7
 unfolding changedTeam
-returns-7 c = rw (c .before .before .before .before .before .command3 .given .1) (c .before .before .set-cap .ensures)
+returns-7 c = rw (c .before .before .before .before .before .command3 .given .1) (c .before .before .open3 .ensures)
 
 same-length-4 : tie.Need-same-length-4
 same-length-4 c = search needs
 
 returns-8 : tie.Need-returns-8
 unfolding changedTeam
-returns-8 c = rw (c .before .before .before .before .before .command4 .given .1) (c .before .before .set-class .ensures)
+returns-8 c = rw (c .before .before .before .before .before .command4 .given .1) (c .before .before .set-cap .ensures)
 
 same-length-5 : tie.Need-same-length-5
 same-length-5 c = search needs
 
 returns-9 : tie.Need-returns-9
 unfolding changedTeam
-returns-9 c = rw (c .before .before .before .before .before .command5 .given .1) (c .before .before .set-span .ensures)
+returns-9 c = rw (c .before .before .before .before .before .command5 .given .1) (c .before .before .set-named .ensures)
+
+same-length-6 : tie.Need-same-length-6
+same-length-6 c = search needs
 
 returns-10 : tie.Need-returns-10
 unfolding changedTeam
-returns-10 c = rw (c .enum-told5 .given .1)
+returns-10 c = rw (c .before .before .before .before .before .command6 .given .1) (c .before .before .set-named2 .ensures)
+
+same-length-7 : tie.Need-same-length-7
+same-length-7 c = search needs
+
+returns-11 : tie.Need-returns-11
+unfolding changedTeam
+returns-11 c = rw (c .before .before .before .before .before .command7 .given .1) (c .before .before .set-named3 .ensures)
+
+returns-12 : tie.Need-returns-12
+unfolding changedTeam
+returns-12 c = rw (c .enum-told5 .given .1)
 
 pub change-spec : {M : Type 1} → statement M
 change-spec =
@@ -116,11 +142,15 @@ change-spec =
     enum-known-command-2
     open-requires-2
     enum-known-command-3
-    set-cap-requires
+    open-requires-3
     enum-known-command-4
-    set-class-requires
+    set-cap-requires
     enum-known-command-5
-    set-span-requires
+    set-named-requires
+    enum-known-command-6
+    set-named-requires-2
+    enum-known-command-7
+    set-named-requires-3
     enum-told-5
     returns
     returns-2
@@ -136,4 +166,8 @@ change-spec =
     returns-8
     same-length-5
     returns-9
-    returns-10)
+    same-length-6
+    returns-10
+    same-length-7
+    returns-11
+    returns-12)

@@ -30,20 +30,29 @@ enum-told-5 c = search needs
 next-team-requires-2 : tie.Need-next-team-requires-2
 next-team-requires-2 c κs = search needs
 
+enum-told-6 : tie.Need-enum-told-6
+enum-told-6 c = search needs
+
+next-team-requires-3 : tie.Need-next-team-requires-3
+next-team-requires-3 c κs = search needs
+
 enum-known-command-2 : tie.Need-enum-known-command-2
 enum-known-command-2 c = search needs
 
 with-capped-requires : tie.Need-with-capped-requires
 with-capped-requires c κs = search needs
 
-enum-told-6 : tie.Need-enum-told-6
-enum-told-6 c = search needs
-
 enum-told-7 : tie.Need-enum-told-7
 enum-told-7 c = search needs
 
 enum-told-8 : tie.Need-enum-told-8
 enum-told-8 c = search needs
+
+enum-told-9 : tie.Need-enum-told-9
+enum-told-9 c = search needs
+
+enum-told-10 : tie.Need-enum-told-10
+enum-told-10 c = search needs
 
 returns : tie.Need-returns
 unfolding changedState
@@ -71,11 +80,11 @@ returns-6 c = rw (c .before .enum-told5 .given .1) (c .next-team2 .ensures)
 
 returns-7 : tie.Need-returns-7
 unfolding changedState
-returns-7 c = rw (c .before .before .command2 .given .1) (c .with-capped .ensures)
+returns-7 c = rw (c .before .enum-told6 .given .1) (c .next-team3 .ensures)
 
 returns-8 : tie.Need-returns-8
 unfolding changedState
-returns-8 c = rw (c .enum-told6 .given .1)
+returns-8 c = rw (c .before .before .command2 .given .1) (c .with-capped .ensures)
 
 returns-9 : tie.Need-returns-9
 unfolding changedState
@@ -84,6 +93,14 @@ returns-9 c = rw (c .enum-told7 .given .1)
 returns-10 : tie.Need-returns-10
 unfolding changedState
 returns-10 c = rw (c .enum-told8 .given .1)
+
+returns-11 : tie.Need-returns-11
+unfolding changedState
+returns-11 c = rw (c .enum-told9 .given .1)
+
+returns-12 : tie.Need-returns-12
+unfolding changedState
+returns-12 c = rw (c .enum-told10 .given .1)
 
 pub changed-state-spec : {M : Type 1} → statement M
 changed-state-spec =
@@ -98,11 +115,14 @@ changed-state-spec =
     next-team-requires
     enum-told-5
     next-team-requires-2
+    enum-told-6
+    next-team-requires-3
     enum-known-command-2
     with-capped-requires
-    enum-told-6
     enum-told-7
     enum-told-8
+    enum-told-9
+    enum-told-10
     returns
     returns-2
     returns-3
@@ -112,4 +132,6 @@ changed-state-spec =
     returns-7
     returns-8
     returns-9
-    returns-10)
+    returns-10
+    returns-11
+    returns-12)

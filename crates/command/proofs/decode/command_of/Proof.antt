@@ -70,6 +70,42 @@ add-t35 c = search needs
 shared-slice-read-t37 : tie.Need-shared-slice-read-t37
 shared-slice-read-t37 c = omega (arith, rw (c .before .before .before .match .keys6) at (c .before .before .before .before .pre))
 
+add-t38 : tie.Need-add-t38
+add-t38 c = search needs
+
+shared-slice-read-t40 : tie.Need-shared-slice-read-t40
+shared-slice-read-t40 c = omega (arith, rw (c .before .match .keys7) at (c .before .before .pre))
+
+add-t41 : tie.Need-add-t41
+add-t41 c = search needs
+
+shared-slice-read-t43 : tie.Need-shared-slice-read-t43
+shared-slice-read-t43 c = omega (arith, rw (c .before .match .keys8) at (c .before .before .pre))
+
+add-t44 : tie.Need-add-t44
+add-t44 c = search needs
+
+shared-slice-read-t46 : tie.Need-shared-slice-read-t46
+shared-slice-read-t46 c = omega (arith, rw (c .before .before .match .keys8) at (c .before .before .before .pre))
+
+add-t47 : tie.Need-add-t47
+add-t47 c = search needs
+
+shared-slice-read-t49 : tie.Need-shared-slice-read-t49
+shared-slice-read-t49 c = omega (arith, rw (c .before .before .before .match .keys8) at (c .before .before .before .before .pre))
+
+add-t50 : tie.Need-add-t50
+add-t50 c = search needs
+
+shared-slice-read-t52 : tie.Need-shared-slice-read-t52
+shared-slice-read-t52 c = omega (arith, rw (c .before .before .before .before .match .keys8) at (c .before .before .before .before .before .pre))
+
+add-t53 : tie.Need-add-t53
+add-t53 c = search needs
+
+shared-slice-read-t55 : tie.Need-shared-slice-read-t55
+shared-slice-read-t55 c = omega (arith, rw (c .before .before .before .before .before .match .keys8) at (c .before .before .before .before .before .before .pre))
+
 returns : tie.Need-returns
 returns c = rw (c .before .before .match .keys1)
 
@@ -89,7 +125,13 @@ returns-6 : tie.Need-returns-6
 returns-6 c = rw (c .before .before .before .match .keys6)
 
 returns-7 : tie.Need-returns-7
-returns-7 c = let h = c .match .rest in rw (ne-eqb (c .before .args .byte) 1 (h .0 .0 .0 .0 .0 .1), ne-eqb (c .before .args .byte) 2 (h .0 .0 .0 .0 .1), ne-eqb (c .before .args .byte) 3 (h .0 .0 .0 .1), ne-eqb (c .before .args .byte) 4 (h .0 .0 .1), ne-eqb (c .before .args .byte) 5 (h .0 .1), ne-eqb (c .before .args .byte) 6 (h .1))
+returns-7 c = rw (c .before .match .keys7)
+
+returns-8 : tie.Need-returns-8
+returns-8 c = rw (c .before .before .before .before .before .match .keys8)
+
+returns-9 : tie.Need-returns-9
+returns-9 c = let h = c .match .rest in rw (ne-eqb (c .before .args .byte) 1 (h .0 .0 .0 .0 .0 .0 .0 .1), ne-eqb (c .before .args .byte) 2 (h .0 .0 .0 .0 .0 .0 .1), ne-eqb (c .before .args .byte) 3 (h .0 .0 .0 .0 .0 .1), ne-eqb (c .before .args .byte) 4 (h .0 .0 .0 .0 .1), ne-eqb (c .before .args .byte) 5 (h .0 .0 .0 .1), ne-eqb (c .before .args .byte) 6 (h .0 .0 .1), ne-eqb (c .before .args .byte) 8 (h .0 .1), ne-eqb (c .before .args .byte) 9 (h .1))
 
 pub command-of-spec : {M : Type 1} → statement M
 command-of-spec =
@@ -117,10 +159,24 @@ command-of-spec =
     shared-slice-read-t34
     add-t35
     shared-slice-read-t37
+    add-t38
+    shared-slice-read-t40
+    add-t41
+    shared-slice-read-t43
+    add-t44
+    shared-slice-read-t46
+    add-t47
+    shared-slice-read-t49
+    add-t50
+    shared-slice-read-t52
+    add-t53
+    shared-slice-read-t55
     returns
     returns-2
     returns-3
     returns-4
     returns-5
     returns-6
-    returns-7)
+    returns-7
+    returns-8
+    returns-9)

@@ -31,6 +31,12 @@ enum-told-5 c = search needs
 team-fault-requires-2 : tie.Need-team-fault-requires-2
 team-fault-requires-2 c κs = search needs
 
+enum-told-6 : tie.Need-enum-told-6
+enum-told-6 c = search needs
+
+team-fault-requires-3 : tie.Need-team-fault-requires-3
+team-fault-requires-3 c κs = search needs
+
 enum-known-command-2 : tie.Need-enum-known-command-2
 enum-known-command-2 c = search needs
 
@@ -52,8 +58,14 @@ enum-known-command-4 c = search needs
 span-fault-requires : tie.Need-span-fault-requires
 span-fault-requires c κs = search needs
 
-enum-told-6 : tie.Need-enum-told-6
-enum-told-6 c = search needs
+enum-known-command-5 : tie.Need-enum-known-command-5
+enum-known-command-5 c = search needs
+
+fit-fault-requires : tie.Need-fit-fault-requires
+fit-fault-requires c κs = search needs
+
+enum-told-7 : tie.Need-enum-told-7
+enum-told-7 c = search needs
 
 end-fault-requires : tie.Need-end-fault-requires
 end-fault-requires c κs = search needs
@@ -83,20 +95,28 @@ unfolding fault
 returns-6 c = rw (c .before .enum-told5 .given .1) (c .team-fault2 .ensures)
 
 returns-7 : tie.Need-returns-7
-unfolding fault rowTeam
-returns-7 c = rw (c .before .before .before .command2 .given .1) (c .class-fault .ensures)
+unfolding fault
+returns-7 c = rw (c .before .enum-told6 .given .1) (c .team-fault3 .ensures)
 
 returns-8 : tie.Need-returns-8
-unfolding fault
-returns-8 c = rw (c .before .before .command3 .given .1) (c .put-fault .ensures)
+unfolding fault rowTeam
+returns-8 c = rw (c .before .before .before .command2 .given .1) (c .class-fault .ensures)
 
 returns-9 : tie.Need-returns-9
 unfolding fault
-returns-9 c = rw (c .before .before .command4 .given .1) (c .span-fault .ensures)
+returns-9 c = rw (c .before .before .command3 .given .1) (c .put-fault .ensures)
 
 returns-10 : tie.Need-returns-10
 unfolding fault
-returns-10 c = rw (c .before .enum-told6 .given .1) (c .end-fault .ensures)
+returns-10 c = rw (c .before .before .command4 .given .1) (c .span-fault .ensures)
+
+returns-11 : tie.Need-returns-11
+unfolding fault
+returns-11 c = rw (c .before .before .command5 .given .1) (c .fit-fault .ensures)
+
+returns-12 : tie.Need-returns-12
+unfolding fault
+returns-12 c = rw (c .before .enum-told7 .given .1) (c .end-fault .ensures)
 
 pub fault-of-spec : {M : Type 1} → statement M
 fault-of-spec =
@@ -111,6 +131,8 @@ fault-of-spec =
     team-fault-requires
     enum-told-5
     team-fault-requires-2
+    enum-told-6
+    team-fault-requires-3
     enum-known-command-2
     shared-slice-read-class-fault
     class-fault-requires
@@ -118,7 +140,9 @@ fault-of-spec =
     put-fault-requires
     enum-known-command-4
     span-fault-requires
-    enum-told-6
+    enum-known-command-5
+    fit-fault-requires
+    enum-told-7
     end-fault-requires
     returns
     returns-2
@@ -129,4 +153,6 @@ fault-of-spec =
     returns-7
     returns-8
     returns-9
-    returns-10)
+    returns-10
+    returns-11
+    returns-12)

@@ -22,15 +22,23 @@ table-requires-2 c κs = search needs
 table-requires-3 : tie.Need-table-requires-3
 table-requires-3 c κs = search needs
 
+table-requires-4 : tie.Need-table-requires-4
+table-requires-4 c κs = search needs
+
+table-requires-5 : tie.Need-table-requires-5
+table-requires-5 c κs = search needs
+
 returns : tie.Need-returns
 unfolding rowTeam
 returns c = λ j. record {
-  kind = getD (c .before .before .before .before .before .before .before .args .row .now) 0 0;
-  channels = getD (c .before .before .before .before .before .before .before .args .row .now) 1 0;
-  cap = c .before .before .before .caps .ensures j;
-  class = c .before .before .table .ensures j;
-  first = c .before .table2 .ensures j;
-  second = c .table3 .ensures j;
+  kind = getD (c .before .before .before .before .before .before .before .before .before .args .row .now) 0 0;
+  channels = getD (c .before .before .before .before .before .before .before .before .before .args .row .now) 1 0;
+  cap = c .before .before .before .before .before .caps .ensures j;
+  named = c .before .before .before .before .table .ensures j;
+  first = c .before .before .before .table2 .ensures j;
+  second = c .before .before .table3 .ensures j;
+  third = c .before .table4 .ensures j;
+  fourth = c .table5 .ensures j;
 }
 
 pub team-spec : {M : Type 1} → statement M
@@ -43,4 +51,6 @@ team-spec =
     table-requires
     table-requires-2
     table-requires-3
+    table-requires-4
+    table-requires-5
     returns)

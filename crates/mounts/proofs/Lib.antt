@@ -1,0 +1,11 @@
+pub mod Blocked
+pub mod Placing
+pub mod Widths
+pub mod Wording
+pub mod Agreeing
+pub mod Reaching
+pub mod Sweeping
+pub mod Greatest
+pub mod Joining
+pub mod Growth
+pub mod Worthless
