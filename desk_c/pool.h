@@ -9,6 +9,8 @@
  *   Refusals 1 to 9 are about the plan, 10 is about the buffer, 11 to 16 are about the sheet.
  * - The longest accepted plan has POOL_PLAN_MAX bytes, the longest accepted sheet POOL_SHEET_MAX bytes.
  *   The listing of an accepted sheet has at most POOL_LISTING_MAX bytes.
+ * - A team with channels above 0 is present, and its share is for a cut into as many parts as teams are present.
+ *   A team with 0 channels is away: it has its page on the sheet, but its share, set and parts are all 0.
  */
 #ifndef POOL_H
 #define POOL_H

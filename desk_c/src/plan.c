@@ -107,13 +107,40 @@ size_t plan_teams(const struct content *plan)
     return plan_at(plan, plan->length).teams;
 }
 
-/* The command byte that opens a team of an accepted plan; 0 for a team not in the plan. */
-uint8_t plan_kind(const struct content *plan, size_t team)
+/* Finds the command that opens a team; null for a team not in the plan. */
+static const uint8_t *find_team(const struct content *plan, size_t team)
 {
     struct plan_place place = plan_first();
 
     while (place.teams <= team)
         if (!plan_next(plan, &place))
-            return 0;
-    return plan->at[place.team];
+            return NULL;
+    return plan->at + place.team;
+}
+
+/* The command byte that opens a team of an accepted plan; 0 for a team not in the plan. */
+uint8_t plan_kind(const struct content *plan, size_t team)
+{
+    const uint8_t *opening = find_team(plan, team);
+
+    return opening == NULL ? 0 : opening[0];
+}
+
+/* Tells whether a team of an accepted plan is present: its channels are above 0. A team not in the plan is not. */
+bool plan_is_present(const struct content *plan, size_t team)
+{
+    const uint8_t *opening = find_team(plan, team);
+
+    return opening != NULL && opening[1] > 0;
+}
+
+/* The number of teams present in an accepted plan. */
+size_t plan_present(const struct content *plan)
+{
+    size_t count = 0;
+
+    for (size_t team = 0; team < plan_teams(plan); team++)
+        if (plan_is_present(plan, team))
+            count++;
+    return count;
 }

@@ -85,4 +85,10 @@ size_t plan_teams(const struct content *plan);
 /* The command byte that opens a team of an accepted plan; 0 for a team not in the plan. */
 uint8_t plan_kind(const struct content *plan, size_t team);
 
+/* Tells whether a team of an accepted plan is present: its channels are above 0. A team not in the plan is not. */
+bool plan_is_present(const struct content *plan, size_t team);
+
+/* The number of teams present in an accepted plan. */
+size_t plan_present(const struct content *plan);
+
 #endif

@@ -1,6 +1,8 @@
 /* The fields of a sheet: which command and operand stands at an offset, and which bytes are allowed there. */
 #include "sheet_field.h"
 
+#include "plan.h"
+
 /* What a byte of a sheet belongs to. */
 struct field {
     enum sheet_byte command;
@@ -9,10 +11,10 @@ struct field {
     size_t instrument; /* of a GIVE or PART */
 };
 
-/* What a byte is for, and which values it may have. */
+/* What a byte is for, and which values it may have: AWAY_ZERO is the 0 in the page of a team that is away. */
 struct rule {
     const char *operand;
-    enum { ONE_VALUE, TEAM_OR_POOL, PART_NUMBER, SET_BYTE, ANY_BYTE } values;
+    enum { ONE_VALUE, TEAM_OR_POOL, PART_NUMBER, SET_BYTE, ANY_BYTE, AWAY_ZERO } values;
     size_t value; /* the one value */
 };
 
@@ -91,6 +93,12 @@ static struct rule find_rule(struct field field, struct sheet_shape shape)
     return (struct rule){"instrument", ONE_VALUE, field.instrument};
 }
 
+/* Tells whether a field stands in the page of a team that is away. */
+static bool is_away(struct field field, const struct content *plan)
+{
+    return (field.command == SHEET_SHARE || field.command == SHEET_PART) && !plan_is_present(plan, field.team);
+}
+
 /* Prints a command of a sheet: its name, and its team and instrument if it has them. */
 static void print_command(FILE *out, struct field field)
 {
@@ -103,28 +111,43 @@ static void print_command(FILE *out, struct field field)
         fprintf(out, " for instrument %zu", field.instrument);
 }
 
-/* Prints which field the byte at an offset of a sheet of this shape is. */
-void sheet_field_print(FILE *out, struct sheet_shape shape, size_t offset)
+/* Prints which field the byte at an offset of a sheet for this plan is. */
+void sheet_field_print(FILE *out, const struct content *plan, size_t offset)
 {
+    struct sheet_shape shape = sheet_shape(plan);
     struct field field = find_field(shape, offset);
-    struct rule rule = find_rule(field, shape);
 
-    fprintf(out, "the %s of ", rule.operand);
+    fprintf(out, "the %s of ", find_rule(field, shape).operand);
     print_command(out, field);
 }
 
-/* Prints which bytes are allowed at an offset of a sheet of this shape. */
-void sheet_field_print_allowed(FILE *out, struct sheet_shape shape, size_t offset)
+/* Prints which bytes are allowed at an offset of a sheet for this plan. */
+void sheet_field_print_allowed(FILE *out, const struct content *plan, size_t offset)
 {
-    struct rule rule = find_rule(find_field(shape, offset), shape);
+    struct sheet_shape shape = sheet_shape(plan);
+    struct field field = find_field(shape, offset);
+    struct rule rule = find_rule(field, shape);
 
-    if (rule.values == ONE_VALUE)
+    if (is_away(field, plan) && rule.values != ONE_VALUE)
+        rule.values = AWAY_ZERO;
+    switch (rule.values) {
+    case ONE_VALUE:
         fprintf(out, "it has to be %02zX", rule.value);
-    else if (rule.values == SET_BYTE)
+        break;
+    case AWAY_ZERO:
+        fprintf(out, "team %zu is away (0 channels), so it has to be 00", field.team);
+        break;
+    case SET_BYTE:
         fprintf(out, "it has a bit that stands for none of the %zu instruments", shape.instruments);
-    else if (rule.values == ANY_BYTE)
+        break;
+    case ANY_BYTE:
         fputs("any byte is allowed", out);
-    else
-        fprintf(out, "allowed is 00 to %02zX%s", shape.teams - 1,
-                rule.values == TEAM_OR_POOL ? ", or FF for the pool" : "");
+        break;
+    case TEAM_OR_POOL:
+        fprintf(out, "allowed is 00 to %02zX, or FF for the pool", shape.teams - 1);
+        break;
+    case PART_NUMBER:
+        fprintf(out, "allowed is 00 to %02zX, one part for each present team", plan_present(plan) - 1);
+        break;
+    }
 }

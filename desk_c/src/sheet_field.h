@@ -4,10 +4,10 @@
 
 #include "sheet.h"
 
-/* Prints which field the byte at an offset of a sheet of this shape is. */
-void sheet_field_print(FILE *out, struct sheet_shape shape, size_t offset);
+/* Prints which field the byte at an offset of a sheet for this plan is. */
+void sheet_field_print(FILE *out, const struct content *plan, size_t offset);
 
-/* Prints which bytes are allowed at an offset of a sheet of this shape. */
-void sheet_field_print_allowed(FILE *out, struct sheet_shape shape, size_t offset);
+/* Prints which bytes are allowed at an offset of a sheet for this plan. */
+void sheet_field_print_allowed(FILE *out, const struct content *plan, size_t offset);
 
 #endif

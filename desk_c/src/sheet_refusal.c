@@ -35,9 +35,9 @@ static void print_wrong_length(const struct subject *subject)
 static void print_wrong_byte(const struct subject *subject)
 {
     fprintf(subject->out, "Byte %zu of the sheet, ", subject->place);
-    sheet_field_print(subject->out, subject->shape, subject->place);
+    sheet_field_print(subject->out, subject->plan, subject->place);
     fprintf(subject->out, ", is %02X; ", subject->sheet->at[subject->place]);
-    sheet_field_print_allowed(subject->out, subject->shape, subject->place);
+    sheet_field_print_allowed(subject->out, subject->plan, subject->place);
     fputs(".", subject->out);
 }
 
@@ -87,9 +87,9 @@ static void print_wrong_share(const struct subject *subject)
     fprintf(subject->out, "The SHARE of team %zu (byte %zu) states the share %u, which is not proved. ", subject->place,
             sheet_share(subject->shape, subject->place), share);
     fprintf(subject->out,
-            "One of the parts (n = %zu) is worth less than %u to the team, "
+            "One of the parts (p = %zu, one for each present team) is worth less than %u to the team, "
             "or the set does not rule out a greater share.",
-            subject->shape.teams, share);
+            plan_present(subject->plan), share);
 }
 
 /* 16: a team holds less than its share. */

@@ -18,6 +18,8 @@ listed a.plan a.sheet 59 "$listing_a"
 listed zero.plan zero.sheet 34 "$listing_zero"
 listed some.plan some.sheet 102 "$listing_some"
 listed all.plan all.sheet 218 "$listing_all"
+listed week.plan week.sheet 84 "$listing_week"
+listed away.plan away.sheet 61 "$listing_away"
 listed longest.plan dealt.sheet 450 "$listing_dealt"
 listed rings.plan dealt.sheet 450 "$listing_dealt"
 
@@ -63,6 +65,10 @@ not_listed_byte 9 00 13 0
 not_listed_byte 3 03 14 0
 not_listed_byte 39 00 15 1
 not_listed six.plan unfair.sheet 16 0
+patch week.sheet bad.sheet 50 01
+not_listed week.plan bad.sheet 12 50
+patch week.sheet bad.sheet 61 01
+not_listed week.plan bad.sheet 12 61
 patch mounts.sheet bad.sheet 9 00
 not_listed mounts.plan bad.sheet 13 0
 not_listed empty empty 1 0

@@ -32,6 +32,21 @@ plan_mounts='01 01 02 08 09 09 00 00 01 00 00 09 01 00 01 00 00 07'
 both='03 00 00 00 00 00 00 00'
 sheet_mounts="11 02 01 01 12 00 00 12 01 FF 13 $both 14 00 01 $both 15 00 00 15 01 00 16"
 
+# Four instruments: teams 0 and 2 take any, team 1 is away. Cut into two parts, each is worth 2 to a present team.
+takes_four='02 04 04 00 04 05 00 00 05 01 00 05 02 00 05 03 00'
+plan_week="01 01 04 $takes_four 03 00 06 00 01 02 06 01 02 03 $takes_four 07"
+
+# The offsets in its sheet: HEAD 0, GIVEs 4, BOUND 16, SHARE 25, PARTs 36, SHARE 48, PARTs 59, SHARE 71, PARTs 82, END 94.
+halves='15 00 00 15 01 00 15 02 01 15 03 01'
+sheet_week="11 04 03 04 12 00 00 12 01 00 12 02 02 12 03 02 13 $none 14 00 02 $none $halves
+    14 01 00 $none 15 00 00 15 01 00 15 02 00 15 03 00 14 02 02 $none $halves 16"
+
+# Three instruments and two teams, both away: all three stay in the pool.
+plan_away='01 01 03 02 00 04 00 03 05 00 00 08 00 09 02 01 00 00 00 07'
+pooled='15 00 00 15 01 00 15 02 00'
+sheet_away="11 03 02 00 12 00 FF 12 01 FF 12 02 FF 13 07 00 00 00 00 00 00 00
+    14 00 00 $none $pooled 14 01 00 $none $pooled 16"
+
 # Prints a SPAN in hexadecimal: gauges in a ring of 64 joints.
 ring_span() {
     printf ' 06 %02x %02x %02x' "$1" "$1" $((($1 + 1) % 64))
@@ -110,6 +125,10 @@ write_samples() {
     hex unfair.sheet $unfair_six
     hex mounts.plan $plan_mounts
     hex mounts.sheet $sheet_mounts
+    hex week.plan $plan_week
+    hex week.sheet $sheet_week
+    hex away.plan $plan_away
+    hex away.sheet $sheet_away
     hex longest.plan $(twelve_teams 08 06 ring_fit)
     hex rings.plan $(twelve_teams 03 06 ring_span)
     hex dealt.sheet $(dealt_sheet)

@@ -88,7 +88,7 @@ Byte 30 of the sheet, the command byte of PART of team 0 for instrument 0, is FF
 refused_byte 51 02 'REFUSED 12 51
 Byte 51 of the sheet, the instrument of PART of team 1 for instrument 1, is 02; it has to be 01.'
 refused_byte 35 FF 'REFUSED 12 35
-Byte 35 of the sheet, the part of PART of team 0 for instrument 1, is FF; allowed is 00 to 01.'
+Byte 35 of the sheet, the part of PART of team 0 for instrument 1, is FF; allowed is 00 to 01, one part for each present team.'
 refused_byte 53 17 'REFUSED 12 53
 Byte 53 of the sheet, the command byte of END, is 17; it has to be 16.'
 
@@ -108,9 +108,9 @@ HEAD (byte 0) states the total 2, but the number of instruments given to teams i
 refused_byte 11 02 'REFUSED 14 0
 HEAD (byte 0) states the total 2, which the set of BOUND (byte 10) does not prove greatest. The instruments outside the set, and the worths of the set to all teams, do not add up to the total.'
 refused_byte 21 02 'REFUSED 15 0
-The SHARE of team 0 (byte 19) states the share 2, which is not proved. One of the parts (n = 2) is worth less than 2 to the team, or the set does not rule out a greater share.'
+The SHARE of team 0 (byte 19) states the share 2, which is not proved. One of the parts (p = 2, one for each present team) is worth less than 2 to the team, or the set does not rule out a greater share.'
 refused_byte 39 00 'REFUSED 15 1
-The SHARE of team 1 (byte 36) states the share 0, which is not proved. One of the parts (n = 2) is worth less than 0 to the team, or the set does not rule out a greater share.'
+The SHARE of team 1 (byte 36) states the share 0, which is not proved. One of the parts (p = 2, one for each present team) is worth less than 0 to the team, or the set does not rule out a greater share.'
 refused_sheet 'team below its share' 'REFUSED 16 0
 Team 0 is given 2 instruments, fewer than its share of 3.' six.plan unfair.sheet
 

@@ -22,6 +22,8 @@ a.plan -
 six.plan unfair.sheet
 longest.plan longest.sheet
 mounts.plan mounts.sheet
+week.plan week.sheet
+away.plan away.sheet
 huge.plan huge.sheet
 empty empty
 bad.plan a.sheet

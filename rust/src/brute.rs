@@ -28,11 +28,15 @@ pub fn best_total(plan: &Plan) -> u32 {
     best
 }
 
-/// The largest s such that some cut into n parts makes every part worth at least s.
-pub fn share(team: &Team, teams: usize, instruments: usize) -> u32 {
-    let table = worth_table(team, instruments);
+/// The largest s such that some cut into p parts makes every part worth at least s to a
+/// present team; 0 for an away team.
+pub fn share(plan: &Plan, team: &Team) -> u32 {
+    if !team.present() {
+        return 0;
+    }
+    let table = worth_table(team, plan.instruments);
     let mut best = 0;
-    every_division(instruments, teams, &mut |parts| {
+    every_division(plan.instruments, plan.present(), &mut |parts| {
         let worths = parts.iter().map(|&set| table[set as usize]);
         best = best.max(worths.min().unwrap_or(0));
     });
@@ -67,10 +71,13 @@ pub fn best_total_by_sets(plan: &Plan) -> u32 {
 }
 
 /// The same share with parts added one at a time.
-pub fn share_by_sets(team: &Team, teams: usize, instruments: usize) -> u32 {
-    let table = worth_table(team, instruments);
-    let start = vec![u32::MAX; 1 << instruments];
-    let last = (0..teams).fold(start, |best, _| combine(&best, &table, u32::min));
+pub fn share_by_sets(plan: &Plan, team: &Team) -> u32 {
+    if !team.present() {
+        return 0;
+    }
+    let table = worth_table(team, plan.instruments);
+    let start = vec![u32::MAX; 1 << plan.instruments];
+    let last = (0..plan.present()).fold(start, |best, _| combine(&best, &table, u32::min));
     last.last().copied().unwrap_or(0)
 }
 

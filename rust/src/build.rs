@@ -26,11 +26,8 @@ pub fn build(file: &[u8], buffer: &mut [u8]) -> Result<usize, Refusal> {
 
 /// Everything the sheet of a plan says.
 pub fn contents(plan: &Plan) -> Contents {
-    let shares: Vec<ShareProof> = plan
-        .teams
-        .iter()
-        .map(|team| maximin_share(team, plan.teams.len(), plan.instruments))
-        .collect();
+    let teams = plan.teams.iter();
+    let shares: Vec<ShareProof> = teams.map(|team| share_proof(plan, team)).collect();
     let floors: Vec<u32> = shares.iter().map(|proof| proof.share.into()).collect();
     let division = divide(plan, &floors);
     Contents {
@@ -53,17 +50,26 @@ pub fn divide(plan: &Plan, floors: &[u32]) -> Partition {
     enlarge(&high, plan.instruments, filled.bundles)
 }
 
-/// The maximin share of a team among n, by bisection: s is attained when n bundles
-/// truncated at s can be filled, beginning with those of a lower s. The failure at s + 1
-/// leaves the bounding set.
-pub fn maximin_share(team: &Team, teams: usize, instruments: usize) -> ShareProof {
-    let mut attained = (0, vec![0; teams]);
-    let mut refuted = (instruments / teams + 1, 0);
+/// The share of a team: the maximin share among the teams present, or nothing if it is away.
+pub fn share_proof(plan: &Plan, team: &Team) -> ShareProof {
+    if team.present() {
+        maximin_share(team, plan.present(), plan.instruments)
+    } else {
+        ShareProof::away(plan.instruments)
+    }
+}
+
+/// The maximin share of a team among `parts` parts, at least one, by bisection: s is
+/// attained when as many bundles truncated at s can be filled, beginning with those of a
+/// lower s. The failure at s + 1 leaves the bounding set.
+fn maximin_share(team: &Team, parts: usize, instruments: usize) -> ShareProof {
+    let mut attained = (0, vec![0; parts]);
+    let mut refuted = (instruments / parts + 1, 0);
     while refuted.0 - attained.0 > 1 {
         let middle = (attained.0 + refuted.0) / 2;
-        let seats = vec![Seat::new(team, middle as u32); teams];
+        let seats = vec![Seat::new(team, middle as u32); parts];
         let cut = enlarge(&seats, instruments, attained.1.clone());
-        if cut.total() as usize == teams * middle {
+        if cut.total() as usize == parts * middle {
             attained = (middle, cut.bundles);
         } else {
             refuted = (middle, cut.tight);

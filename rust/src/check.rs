@@ -53,7 +53,7 @@ pub fn judge(plan: &Plan, sheet: &[u8]) -> Result<(), Refusal> {
     }
     lowest_team(15, plan, |t, team| {
         let stretch = &sheet[layout.share(t)..layout.share(t + 1)];
-        share_holds(plan, team, stretch)
+        !team.present() || share_holds(plan, team, stretch)
     })?;
     lowest_team(16, plan, |t, _| {
         bits::size(held[t]) >= u32::from(sheet[layout.share(t) + 2])
@@ -94,13 +94,16 @@ fn total_holds(plan: &Plan, held: &[u64], sheet: &[u8]) -> bool {
     stated == given && stated == bits::size(plan.all() & !set) + ranks
 }
 
-/// Rule 15: every part attains the share, and the set shows that no cut does better.
+/// Rule 15 for a present team: every one of the p parts attains the share, and the set
+/// shows that no cut does better.
 fn share_holds(plan: &Plan, team: &Team, stretch: &[u8]) -> bool {
-    let teams = plan.teams.len();
+    let present = plan.present();
     let share = u32::from(stretch[2]);
     let set = sheet::set_at(stretch, 3);
     let parts = cut(&stretch[11..]);
-    let attained = parts[..teams].iter().all(|&part| team.rank(part) >= share);
-    let most = bits::size(plan.all() & !set) + teams as u32 * team.rank(set);
-    attained && most < teams as u32 * (share + 1)
+    let attained = parts[..present]
+        .iter()
+        .all(|&part| team.rank(part) >= share);
+    let most = bits::size(plan.all() & !set) + present as u32 * team.rank(set);
+    attained && most < present as u32 * (share + 1)
 }

@@ -1,4 +1,4 @@
-//! Named example plans: plan A and four weeks of growing size. In each of the weeks the
+//! Named example plans: plan A and five weeks of growing size. In each of the weeks the
 //! greatest total alone would leave some team below its share.
 
 use crate::writer::{plan_a, PlanWriter};
@@ -16,6 +16,7 @@ pub fn all() -> Vec<Example> {
         example("plan-a", plan_a()),
         example("footbridge", footbridge()),
         example("suspension", suspension()),
+        example("viaduct", viaduct()),
         example("tunnel", tunnel()),
         example("valley", valley()),
     ]
@@ -54,6 +55,20 @@ fn suspension() -> Vec<u8> {
         (12..14, 0b00100),
     ];
     fitter(&mut plan, &hangers, 4);
+    plan.end()
+}
+
+/// Five teams, 18 instruments of a viaduct: 0 to 7 measure strain, 8 to 12 tilt, 13 to 17
+/// acceleration. A survey logs anything, the truss is measured by the strain gauges, and the
+/// piers have three mounts for tilt and two for acceleration. The teams of the bearings and
+/// of the deck are away.
+fn viaduct() -> Vec<u8> {
+    let mut plan = PlanWriter::start(18);
+    survey(&mut plan, 0..18, 18);
+    ring(&mut plan, 0..8, 5, 1, 8);
+    fitter(&mut plan, &[(8..13, 0b0011), (13..18, 0b1100)], 0);
+    logger(&mut plan, &[(0..8, 4), (13..18, 2)], 0);
+    fitter(&mut plan, &[(8..13, 0b00111), (13..18, 0b11000)], 5);
     plan.end()
 }
 

@@ -1,7 +1,7 @@
 //! Families of plans for the benchmark.
 
 use crate::random::Random;
-use crate::sample::{any_plan, caps_and_loops_plan, two_joints};
+use crate::sample::{all_kinds_plan, caps_and_loops_plan, two_joints};
 use crate::writer::PlanWriter;
 
 /// A family of plans for the benchmark: a name and a maker.
@@ -11,7 +11,7 @@ pub struct Family {
 }
 
 /// The families of the benchmark.
-pub const FAMILIES: [Family; 12] = [
+pub const FAMILIES: [Family; 13] = [
     Family {
         name: "dense loops, 6 joints",
         plan: |random, m, n| loops_on(random, m, n, 6),
@@ -58,7 +58,11 @@ pub const FAMILIES: [Family; 12] = [
     },
     Family {
         name: "all three kinds",
-        plan: any_plan,
+        plan: all_kinds_plan,
+    },
+    Family {
+        name: "half the teams away",
+        plan: half_away,
     },
 ];
 
@@ -67,27 +71,37 @@ fn loops_on(random: &mut Random, instruments: usize, teams: usize, joints: usize
     let mut plan = PlanWriter::start(instruments);
     for _ in 0..teams {
         plan.loops(255);
-        for item in 0..instruments {
-            let (a, b) = two_joints(random, joints);
-            plan.span(item, a, b);
-        }
+        spans(random, &mut plan, instruments, joints);
     }
     plan.end()
 }
 
-/// CAPS teams only, with eight classes of small caps.
+/// A SPAN for every instrument, on this many joints.
+fn spans(random: &mut Random, plan: &mut PlanWriter, instruments: usize, joints: usize) {
+    for item in 0..instruments {
+        let (a, b) = two_joints(random, joints);
+        plan.span(item, a, b);
+    }
+}
+
+/// CAPS teams only.
 fn all_caps(random: &mut Random, instruments: usize, teams: usize) -> Vec<u8> {
     let mut plan = PlanWriter::start(instruments);
     for _ in 0..teams {
         plan.caps(random.between(4, 12) as u8);
-        for class in 0..8 {
-            plan.class(class, random.between(0, 2) as u8);
-        }
-        for item in 0..instruments {
-            plan.put(item, random.below(8) as u8);
-        }
+        puts(random, &mut plan, instruments);
     }
     plan.end()
+}
+
+/// Eight classes of small caps, and a PUT for every instrument.
+fn puts(random: &mut Random, plan: &mut PlanWriter, instruments: usize) {
+    for class in 0..8 {
+        plan.class(class, random.between(0, 2) as u8);
+    }
+    for item in 0..instruments {
+        plan.put(item, random.below(8) as u8);
+    }
 }
 
 /// One random graph that every team shares.
@@ -97,10 +111,7 @@ fn all_alike(random: &mut Random, instruments: usize, teams: usize) -> Vec<u8> {
     for _ in 0..teams {
         let mut own = Random::new(seed);
         plan.loops(255);
-        for item in 0..instruments {
-            let (a, b) = two_joints(&mut own, 8);
-            plan.span(item, a, b);
-        }
+        spans(&mut own, &mut plan, instruments, 8);
     }
     plan.end()
 }
@@ -163,10 +174,7 @@ fn one_takes_all(random: &mut Random, instruments: usize, teams: usize) -> Vec<u
     }
     for _ in 1..teams {
         plan.loops(255);
-        for item in 0..instruments {
-            let (a, b) = two_joints(random, 7);
-            plan.span(item, a, b);
-        }
+        spans(random, &mut plan, instruments, 7);
     }
     plan.end()
 }
@@ -196,15 +204,34 @@ fn tight_shares(random: &mut Random, instruments: usize, teams: usize) -> Vec<u8
     plan.end()
 }
 
-/// MOUNTS teams only, channels never short: each instrument fits one to three of eight
-/// mounts, so that many a set has to be matched anew.
+/// MOUNTS teams only, channels never short.
 fn all_mounts(random: &mut Random, instruments: usize, teams: usize) -> Vec<u8> {
     let mut plan = PlanWriter::start(instruments);
     for _ in 0..teams {
         plan.mounts(255);
-        for item in 0..instruments {
-            let mounts = (0..3).fold(0, |sum, _| sum | 1 << random.below(8));
-            plan.fit(item, mounts);
+        fits(random, &mut plan, instruments);
+    }
+    plan.end()
+}
+
+/// A FIT for every instrument: one to three of eight mounts, so that many a set has to be
+/// matched anew.
+fn fits(random: &mut Random, plan: &mut PlanWriter, instruments: usize) {
+    for item in 0..instruments {
+        let mounts = (0..3).fold(0, |sum, _| sum | 1 << random.below(8));
+        plan.fit(item, mounts);
+    }
+}
+
+/// Teams of the three kinds in turn, channels never short: the odd ones are away.
+fn half_away(random: &mut Random, instruments: usize, teams: usize) -> Vec<u8> {
+    let mut plan = PlanWriter::start(instruments);
+    for team in 0..teams {
+        let channels = if team & 1 == 0 { 255 } else { 0 };
+        match team % 3 {
+            0 => puts(random, plan.caps(channels), instruments),
+            1 => spans(random, plan.loops(channels), instruments, 16),
+            _ => fits(random, plan.mounts(channels), instruments),
         }
     }
     plan.end()

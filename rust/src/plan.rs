@@ -68,6 +68,18 @@ impl Plan {
     pub fn all(&self) -> u64 {
         bits::first(self.instruments)
     }
+
+    /// p, the number of teams present.
+    pub fn present(&self) -> usize {
+        self.teams.iter().filter(|team| team.present()).count()
+    }
+}
+
+impl Team {
+    /// Whether the team is present: its channels are above 0.
+    pub fn present(&self) -> bool {
+        self.channels > 0
+    }
 }
 
 /// Reads a whole plan, or tells what is wrong with its first faulty command.

@@ -4,36 +4,75 @@ use crate::bits;
 use crate::random::Random;
 use crate::writer::PlanWriter;
 
-/// A random plan of this size, its teams of every kind and sort.
+/// The bytes that open a CAPS, a LOOPS and a MOUNTS team.
+const ALL_KINDS: [u8; 3] = [0x02, 0x03, 0x08];
+
+/// A random plan of this size, its teams of every kind and sort, present and away.
 pub fn any_plan(random: &mut Random, instruments: usize, teams: usize) -> Vec<u8> {
-    plan_of(random, instruments, teams, &[0x02, 0x03, 0x08])
+    plan_with_leave(random, instruments, teams, &ALL_KINDS)
 }
 
-/// A random plan with CAPS and LOOPS teams.
-pub fn caps_and_loops_plan(random: &mut Random, instruments: usize, teams: usize) -> Vec<u8> {
-    plan_of(random, instruments, teams, &[0x02, 0x03])
-}
-
-/// A random plan with MOUNTS teams.
+/// A random plan with MOUNTS teams, present and away.
 pub fn mounts_plan(random: &mut Random, instruments: usize, teams: usize) -> Vec<u8> {
-    plan_of(random, instruments, teams, &[0x08])
+    plan_with_leave(random, instruments, teams, &[0x08])
 }
 
-/// A random plan whose teams are opened by these bytes.
-fn plan_of(random: &mut Random, instruments: usize, teams: usize, openings: &[u8]) -> Vec<u8> {
+/// A random plan with teams of every kind for the benchmark, few of them away.
+pub fn all_kinds_plan(random: &mut Random, instruments: usize, teams: usize) -> Vec<u8> {
+    plan_of(random, instruments, teams, &ALL_KINDS, |_, drawn| drawn)
+}
+
+/// A random plan with CAPS and LOOPS teams for the benchmark, few of them away.
+pub fn caps_and_loops_plan(random: &mut Random, instruments: usize, teams: usize) -> Vec<u8> {
+    plan_of(random, instruments, teams, &[0x02, 0x03], |_, drawn| drawn)
+}
+
+/// A random plan whose teams are opened by these bytes. In half of the plans all teams are
+/// present, in most others a quarter is away, now and then all are.
+fn plan_with_leave(
+    random: &mut Random,
+    instruments: usize,
+    teams: usize,
+    openings: &[u8],
+) -> Vec<u8> {
+    let away = random.pick(&[0, 0, 0, 0, 0, 0, 0, 0, 1, 1, 1, 1, 1, 1, 1, 4]);
+    plan_of(random, instruments, teams, openings, |random, drawn| {
+        if random.chance(away, 4) {
+            0
+        } else {
+            drawn.max(1)
+        }
+    })
+}
+
+/// A random plan whose teams are opened by these bytes and have the channels that `leave`
+/// makes of the drawn ones.
+fn plan_of(
+    random: &mut Random,
+    instruments: usize,
+    teams: usize,
+    openings: &[u8],
+    leave: impl Fn(&mut Random, u8) -> u8,
+) -> Vec<u8> {
     let mut plan = PlanWriter::start(instruments);
     let alike = random.chance(1, 4).then(|| random.word());
     for _ in 0..teams {
         let mut own = Random::new(alike.unwrap_or_else(|| random.word()));
-        any_team(&mut own, &mut plan, instruments, openings);
+        let channels = leave(random, any_channels(&mut own, instruments));
+        let (opening, commands) = any_team(&mut own, instruments, openings);
+        plan.add(&[opening, channels]).add(&commands);
     }
     plan.end()
 }
 
-/// One random team, its commands in a random order.
-fn any_team(random: &mut Random, plan: &mut PlanWriter, instruments: usize, openings: &[u8]) {
+/// The channels of a random team.
+fn any_channels(random: &mut Random, instruments: usize) -> u8 {
     let few = random.below(instruments / 2 + 2) as u8;
-    let channels = random.pick(&[255, 255, 64, few, few, 0]);
+    random.pick(&[255, 255, 64, few, few, 0])
+}
+
+/// The opening byte of a random team and its commands in a random order.
+fn any_team(random: &mut Random, instruments: usize, openings: &[u8]) -> (u8, Vec<u8>) {
     let rate = random.pick(&[4, 4, 3, 2]);
     let opening = random.pick(openings);
     let mut commands = match opening {
@@ -41,11 +80,8 @@ fn any_team(random: &mut Random, plan: &mut PlanWriter, instruments: usize, open
         0x03 => loops_commands(random, instruments, rate),
         _ => mounts_commands(random, instruments, rate),
     };
-    plan.add(&[opening, channels]);
     random.shuffle(&mut commands);
-    for command in commands {
-        plan.add(&command);
-    }
+    (opening, commands.concat())
 }
 
 /// CLASS and PUT commands; `rate` of 4 instruments are put.

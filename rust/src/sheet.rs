@@ -48,6 +48,17 @@ pub struct ShareProof {
     pub parts: Vec<u8>,
 }
 
+impl ShareProof {
+    /// What the page of an away team says: share 0, set 0, every instrument in part 0.
+    pub fn away(instruments: usize) -> Self {
+        ShareProof {
+            share: 0,
+            set: 0,
+            parts: vec![0; instruments],
+        }
+    }
+}
+
 /// What a sheet says.
 #[derive(Clone, Debug)]
 pub struct Contents {

@@ -108,6 +108,20 @@ POOL
 }
 
 #[test]
+fn teams_away() {
+    let Some(program) = &*DIVIDE else { return };
+    for case in away::cases() {
+        assert_eq!(right_output(program, &case.file), 0, "{}", case.name);
+    }
+    for present in [|_| true, |team| team != 1, |team| team == 2] {
+        let file = away::with_present(&hex(away::WEEK), present);
+        assert_eq!(right_output(program, &file), 0);
+    }
+    let none = away::with_present(&hex(away::WEEK), |_| false);
+    assert_eq!(printed(program, &none), away::WEEK_OF_NOBODY);
+}
+
+#[test]
 fn refusals_of_each_number() {
     let Some(program) = &*DIVIDE else { return };
     let faults = [

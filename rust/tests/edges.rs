@@ -3,7 +3,7 @@
 mod common;
 
 use common::{hex, longest_plan, own_sheet, read, MOUNTS_FAULTS};
-use pool::build::{answer as build, contents, maximin_share};
+use pool::build::{answer as build, contents, share_proof};
 use pool::check::{answer as check, page};
 use pool::plan::{self, Kind};
 use pool::refusal::Refusal;
@@ -19,15 +19,14 @@ fn refusal(file: &[u8]) -> Refusal {
 /// Shares by the builder, by both searches, and what the sheet says of them.
 fn shares(file: &[u8]) -> Vec<u32> {
     let plan = read(file);
-    let (n, m) = (plan.teams.len(), plan.instruments);
     let found: Vec<u32> = plan
         .teams
         .iter()
-        .map(|team| maximin_share(team, n, m).share.into())
+        .map(|team| share_proof(&plan, team).share.into())
         .collect();
     for (team, &share) in plan.teams.iter().zip(&found) {
-        assert_eq!(share, brute::share(team, n, m));
-        assert_eq!(share, brute::share_by_sets(team, n, m));
+        assert_eq!(share, brute::share(&plan, team));
+        assert_eq!(share, brute::share_by_sets(&plan, team));
     }
     found
 }

@@ -2,6 +2,7 @@
 
 mod common;
 
+use common::away::{week_sheet, with_present, WEEK, WEEK_OF_NOBODY};
 use common::{hex, own_sheet, read, some_plan};
 use pool::build::contents;
 use pool::check::{answer as check, layout_of};
@@ -79,6 +80,20 @@ TEAM 1 SHARE 0 HOLDS
 POOL 0 1 2
 ";
     assert_eq!(listing(&file, &own_sheet(&file)), expected);
+}
+
+#[test]
+fn a_team_away() {
+    let expected = "\
+TOTAL 4
+TEAM 0 SHARE 2 HOLDS 0 1
+TEAM 1 SHARE 0 HOLDS
+TEAM 2 SHARE 2 HOLDS 2 3
+POOL
+";
+    assert_eq!(listing(&hex(WEEK), &week_sheet()), expected);
+    let file = with_present(&hex(WEEK), |_| false);
+    assert_eq!(listing(&file, &own_sheet(&file)), WEEK_OF_NOBODY);
 }
 
 #[test]

@@ -105,9 +105,8 @@ fn small_plans_against_all_divisions() {
     for _ in 0..cases() {
         let file = some_plan(&mut random, 6, 3);
         let plan = read(&file);
-        let (n, m) = (plan.teams.len(), plan.instruments);
         sheet_says(&file, &plan, brute::best_total(&plan), |team| {
-            brute::share(&plan.teams[team], n, m)
+            brute::share(&plan, &plan.teams[team])
         });
     }
 }
@@ -118,9 +117,8 @@ fn small_plans_with_many_teams() {
     for _ in 0..cases() / 40 {
         let file = some_plan(&mut random, 8, 12);
         let plan = read(&file);
-        let (n, m) = (plan.teams.len(), plan.instruments);
         sheet_says(&file, &plan, brute::best_total_by_sets(&plan), |team| {
-            brute::share_by_sets(&plan.teams[team], n, m)
+            brute::share_by_sets(&plan, &plan.teams[team])
         });
     }
 }
@@ -130,10 +128,10 @@ fn the_two_searches_agree() {
     let mut random = Random::new(6);
     for _ in 0..cases() / 20 {
         let plan = read(&some_plan(&mut random, 6, 3));
-        let (n, m) = (plan.teams.len(), plan.instruments);
         assert_eq!(brute::best_total(&plan), brute::best_total_by_sets(&plan));
         for team in &plan.teams {
-            assert_eq!(brute::share(team, n, m), brute::share_by_sets(team, n, m));
+            let share = brute::share(&plan, team);
+            assert_eq!(share, brute::share_by_sets(&plan, team));
         }
     }
 }
@@ -200,15 +198,15 @@ fn accepted_sheets_are_true() {
         for _ in 0..40 {
             let mut other = sheet.clone();
             for _ in 0..random.between(1, 3) {
-                damage_field(&mut random, layout, &mut other);
+                damage_field(&mut random, &plan, &mut other);
             }
             let verdict = check(&file, &other);
             tally.count(verdict);
             if verdict == 0 {
                 assert_eq!(u32::from(other[3]), total);
                 for (t, team) in plan.teams.iter().enumerate() {
-                    let share = brute::share(team, layout.teams, layout.instruments);
-                    assert_eq!(u32::from(other[layout.share(t) + 2]), share);
+                    let stated = u32::from(other[layout.share(t) + 2]);
+                    assert_eq!(stated, brute::share(&plan, team));
                 }
             }
         }

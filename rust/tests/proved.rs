@@ -3,6 +3,7 @@
 
 mod common;
 
+use common::proved::*;
 use common::*;
 use pool::build::{contents, divide};
 use pool::check::layout_of;
@@ -11,61 +12,10 @@ use pool::random::Random;
 use pool::refusal::Refusal;
 use pool::sample::{any_plan, mounts_plan};
 use pool::writer::{plan_a, PlanWriter};
-use pool::{bits, build, check, definition, ffi, listing};
+use pool::{bits, definition, ffi, listing};
 
 /// The most bytes of the listing of an accepted sheet.
 const MOST_LISTED: usize = 512;
-
-/// Bytes before and after a lent buffer that must stay as they are.
-const GUARD: usize = 40;
-
-/// The pattern a buffer is filled with beforehand.
-fn pattern(length: usize, salt: u8) -> Vec<u8> {
-    let bytes = 0..length;
-    bytes
-        .map(|at| (at as u8).wrapping_mul(37).wrapping_add(salt))
-        .collect()
-}
-
-/// Calls the proved Build on a buffer of this length between guards. Tests the answer
-/// and every byte that must stay; hands back the sheet, if one was written.
-fn proved_build(file: &[u8], length: usize, salt: u8) -> Option<Vec<u8>> {
-    let before = pattern(length + 2 * GUARD, salt);
-    let mut memory = before.clone();
-    let answer = ffi::build(file, &mut memory[GUARD..GUARD + length]);
-    let mut scratch = vec![0; length];
-    let expected = build::answer(file, &mut scratch);
-    assert_eq!(answer, expected, "Build, {length} lent: {file:x?}");
-    let written = if answer < 65_536 { answer as usize } else { 0 };
-    assert_eq!(memory[..GUARD], before[..GUARD], "{file:x?}");
-    let after = GUARD + written;
-    assert_eq!(memory[after..], before[after..], "{length}: {file:x?}");
-    (answer < 65_536).then(|| memory[GUARD..after].to_vec())
-}
-
-/// Both checkers give the same verdict, and this is it.
-fn same_verdict(file: &[u8], sheet: &[u8]) -> u64 {
-    let own = check::answer(file, sheet);
-    let proved = ffi::check(file, sheet);
-    assert_eq!(proved, own, "Check of {sheet:x?} by {file:x?}");
-    own
-}
-
-/// Total and shares as a sheet states them.
-fn stated(file: &[u8], sheet: &[u8]) -> Vec<u8> {
-    let layout = layout_of(&read(file));
-    let shares = (0..layout.teams).map(|team| sheet[layout.share(team) + 2]);
-    std::iter::once(sheet[3]).chain(shares).collect()
-}
-
-/// Both sheets are accepted by both checkers and state the same.
-fn same_sheets(file: &[u8], more: usize, salt: u8) {
-    let own = own_sheet(file);
-    let proved = proved_build(file, own.len() + more, salt).expect("a sheet");
-    assert_eq!(same_verdict(file, &own), 0, "{file:x?}");
-    assert_eq!(same_verdict(file, &proved), 0, "{file:x?}");
-    assert_eq!(stated(file, &own), stated(file, &proved), "{file:x?}");
-}
 
 #[test]
 fn every_size() {
@@ -328,13 +278,7 @@ fn every_byte_of_small_sheets() {
     files.extend((1..3).map(|n| mounts_plan(&mut random, 9, n)));
     for file in files {
         let sheet = own_sheet(&file);
-        for at in 0..sheet.len() {
-            for value in 0..=255 {
-                let mut other = sheet.clone();
-                other[at] = value;
-                tally.count(same_verdict(&file, &other));
-            }
-        }
+        every_byte(&file, &sheet, &mut tally);
     }
     tally.seen([0, 12, 13, 14, 15].into_iter());
 }
@@ -346,12 +290,12 @@ fn damaged_fields() {
     for round in 0..cases() / 4 {
         let most = if round % 50 == 0 { 64 } else { 8 };
         let file = some_plan(&mut random, most, 12);
-        let layout = layout_of(&read(&file));
+        let plan = read(&file);
         let sheet = own_sheet(&file);
         for _ in 0..8 {
             let mut other = sheet.clone();
             for _ in 0..random.between(1, 4) {
-                damage_field(&mut random, layout, &mut other);
+                damage_field(&mut random, &plan, &mut other);
             }
             tally.count(same_verdict(&file, &other));
         }
@@ -532,14 +476,14 @@ fn listings_of_damaged_sheets() {
     for round in 0..cases() / 4 {
         let most = if round % 50 == 0 { 64 } else { 8 };
         let file = some_plan(&mut random, most, 12);
-        let layout = layout_of(&read(&file));
+        let plan = read(&file);
         let sheet = own_sheet(&file);
         for _ in 0..4 {
             let other = damage(&mut random, &sheet, &file);
             tally_listing(&mut random, &file, &other, &mut tally);
             let mut other = sheet.clone();
             for _ in 0..random.between(1, 4) {
-                damage_field(&mut random, layout, &mut other);
+                damage_field(&mut random, &plan, &mut other);
             }
             tally_listing(&mut random, &file, &other, &mut tally);
         }

@@ -1,18 +1,21 @@
 -- The answers of `build`.
 use Prim.Native.Nat.{ℕ, _≤_, _<_}
-use mathlib.Core.Path.{_≡_, refl, sym, ap, _∙_}
+use mathlib.Core.Path.{_≡_, refl, sym, ap, _∙_, subst}
 use mathlib.Core.Logic.{_≢_}
 use mathlib.Core.List.{List}
 use lib.ListN.{length, take}
 use borrow.Author.Tests.{eq-eqb, ne-eqb, lt-ltb, le-ltb}
+use Rattle.matroid.specs.Set.{Set}
 use Rattle.plan.specs.declared.Reading.{Reading}
 use Rattle.plan.specs.Read.{readPlan}
 use Rattle.plan.specs.Valid.{Valid}
 use Rattle.engine.specs.declared.divide.Division.{Division}
 use Rattle.kinds.specs.declared.Valuation.{Valuation}
-use Rattle.plan.specs.Teams.{valuationsOf}
+use Rattle.plan.specs.Teams.{valuationsOf, present}
 use Rattle.plan.proofs.Valuing.{valued-long}
+use Rattle.plan.proofs.Present.{away-row}
 use Rattle.engine.specs.Fill.{ValidAgents}
+use Rattle.engine.specs.Level.{Away}
 use Rattle.engine.specs.Share.{Counted}
 use Rattle.engine.specs.Divide.{Divided}
 use Rattle.command.proofs.Mapped.{first-mapped}
@@ -28,6 +31,10 @@ use Rattle.builder.proofs.Stating.{states, rest-same}
 -- the agents of an accepted reading
 pub valid-agents : (r : Reading) (row : List Valuation) → Valid r → row ≡ valuationsOf r → ValidAgents (record { m = r .m; n = r .n; valuations = row })
 valid-agents r row v e = record { small = v .small; some = v .some; few = v .few; valuations-long = valued-long r row e }
+
+-- those of its teams that are not present are away
+pub away-agents : (r : Reading) (row : List Valuation) → Valid r → row ≡ valuationsOf r → (here : Set) → here ≡ present r → Away (record { m = r .m; n = r .n; valuations = row }) here
+away-agents r row v e here is-here = record { idle = away-row r row (v .few) e here is-here }
 
 -- an answer in the paper's numbers
 pub build-told : (plan before : List ℕ) (a : Built) → a ≡ buildAnswer plan before → BuildTold plan before a
@@ -61,10 +68,12 @@ module _ (plan before : List ℕ) (r : Reading) (is : r ≡ readPlan plan) where
       sym here ∙ ap (λ (x : Reading). answerBy x (length before)) is
 
   -- what is written is accepted
-  pub sheet-wrote : (valid : Valid r) → r .refusal ≡ 0 → (long : ℕ) → long ≡ lengthOf (r .m) (r .n) → long ≤ length before → (row : List Valuation) → row ≡ valuationsOf r → (after : List ℕ) (total : ℕ) (d : Division)
-      → Written before after (r .m) (r .n) total d → Divided (record { m = r .m; n = r .n; valuations = row }) d → Counted (d .holding) total → Answered plan before after (Wrote long)
-  sheet-wrote valid z long e l row same after total d w div count =
+  pub sheet-wrote : (valid : Valid r) → r .refusal ≡ 0 → (long : ℕ) → long ≡ lengthOf (r .m) (r .n) → long ≤ length before → (row : List Valuation) → row ≡ valuationsOf r → (here : Set) → here ≡ present r
+      → (after : List ℕ) (total : ℕ) (d : Division) → Written before after (r .m) (r .n) total d → Divided (record { m = r .m; n = r .n; valuations = row }) here d → Counted (d .holding) total
+      → Answered plan before after (Wrote long)
+  sheet-wrote valid z long e l row same here is-here after total d w by-here count =
       let room = rw e at l in
+      let div = subst (λ (A : Set). Divided (record { m = r .m; n = r .n; valuations = row }) A d) is-here by-here in
       rw e (sheet (lengthOf (r .m) (r .n)) (w .long) room
       (ap (λ (x : Reading). verdictOf x (take (lengthOf (r .m) (r .n)) after)) (sym is) ∙ accepts r (take (lengthOf (r .m) (r .n)) after) (states r valid row same z before after total d w room div count))
       (rest-same r valid row same z before after total d w room div count))

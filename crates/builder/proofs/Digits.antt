@@ -78,6 +78,13 @@ digits (suc w) sheet at x h =
     let same : x % 2 ^ (8 * w + 8) ≡ x % 2 ^ (8 * suc w) = ap (λ (y : ℕ). x % y) len in
     omega arith
 
+-- the bytes of no members are 0
+pub set-zero : (j : ℕ) → setBytes 0 j ≡ 0
+set-zero j =
+    let e : 0 - 8 * j ≡ 0 = omega arith in
+    let small = subst (λ (x : ℕ). setBytes 0 j < 2 ^ x) e (set-formed 0 0 j (omega arith)) in
+    omega arith
+
 -- the eight bytes of a set are the set
 pub set-back : (m k : ℕ) (sheet : List ℕ) (at : ℕ) → m ≤ 64 → k < 2 ^ m → ((j : ℕ) → j < 8 → getD sheet (at + j) 0 ≡ setBytes k j) → numberAt 8 sheet at ≡ k
 unfolding setBytes

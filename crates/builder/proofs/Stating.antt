@@ -6,7 +6,7 @@ use mathlib.Core.Logic.{inl, inr}
 use mathlib.Core.List.{List}
 use native.Mathlib.Omega.{arith}
 use lib.Dec.{T, eqb, ltb}
-use lib.ListN.{length, getD, take, drop, length-drop}
+use lib.ListN.{length, getD, take, drop, length-drop, getD-replicate}
 use lib.Seq.{length-take-le, getD-take, getD-drop, ext-getD}
 use borrow.Author.Tests.{lt-ltb, le-ltb}
 use Rattle.matroid.specs.Set.{complement, size}
@@ -21,12 +21,13 @@ use Rattle.plan.specs.Valid.{Valid}
 use Rattle.sets.proofs.Lists.{getD-any}
 use Rattle.kinds.specs.declared.Valuation.{Valuation}
 use Rattle.kinds.specs.Valuations.{matroids}
-use Rattle.plan.specs.Teams.{valuationsOf, teamMatroid}
+use Rattle.plan.specs.Teams.{valuationsOf, teamMatroid, present, presentCount}
 use Rattle.plan.proofs.Valuing.{matroids-of}
 use Rattle.engine.specs.declared.divide.Division.{Division}
 use Rattle.exchange.specs.Agents.{holder, Held}
 use Rattle.engine.specs.Fill.{given}
 use Rattle.engine.specs.Share.{Counted}
+use Rattle.engine.specs.declared.share.Shared.{Shared}
 use Rattle.engine.specs.Divide.{noShare, Divided}
 use Rattle.exchange.proofs.Words.{indep-alike}
 use Rattle.engine.proofs.Sharing.{given-count, held-agent}
@@ -38,7 +39,7 @@ use Rattle.sheet.specs.Formed.{Formed}
 use Rattle.sheet.proofs.Commands.{holder-team, holder-pool}
 use Rattle.checker.specs.Stated.{Stated}
 use Rattle.builder.specs.Rows.{three, setBytes, rowBytes, pageBytes, Written}
-use Rattle.builder.proofs.Digits.{low-lt, set-formed, set-back}
+use Rattle.builder.proofs.Digits.{low-lt, set-formed, set-back, set-zero}
 use Rattle.builder.proofs.Pages.{share-mono, share-le}
 
 -- ---- the bytes of rows and pages
@@ -69,7 +70,7 @@ page-part t k one =
 
 module _ (r : Reading) (valid : Valid r) (row : List Valuation) (same : row ≡ valuationsOf r) (read : r .refusal ≡ 0) (before after : List ℕ) (total : ℕ) (d : Division)
     (w : Written before after (r .m) (r .n) total d) (room : lengthOf (r .m) (r .n) ≤ length before)
-    (div : Divided (record { m = r .m; n = r .n; valuations = row }) d) (count : Counted (d .holding) total) where
+    (div : Divided (record { m = r .m; n = r .n; valuations = row }) (present r) d) (count : Counted (d .holding) total) where
   abbrev m : ℕ
   m = r .m
 
@@ -148,16 +149,16 @@ module _ (r : Reading) (valid : Valid r) (row : List Valuation) (same : row ≡ 
   bound-at : boundAt m sheet ≡ d .bound
   bound-at = set-back m (d .bound) sheet (boundStart m + 1) (valid .small) bound-small bound-bytes
 
-  set-small : (t : ℕ) → t < n → getD (d .shares) t noShare .bound < 2 ^ m
-  set-small t l = low-lt m (getD (d .shares) t noShare .bound) (div .shares .at t l .low)
+  set-small : (t : ℕ) → t < n → T (present r t) → getD (d .shares) t noShare .bound < 2 ^ m
+  set-small t l here = low-lt m (getD (d .shares) t noShare .bound) (div .shares .at t l here .low)
 
   set-bytes : (t : ℕ) → t < n → (k : ℕ) → k < 8 → getD sheet (shareStart m t + 3 + k) 0 ≡ setBytes (getD (d .shares) t noShare .bound) k
   set-bytes t l k b =
       let assoc : shareStart m t + 3 + k ≡ shareStart m t + (3 + k) = omega arith in
       ap (λ (i : ℕ). getD sheet i 0) assoc ∙ page-at t l (3 + k) (omega arith) ∙ page-set t k (getD (d .shares) t noShare) b
 
-  set-at : (t : ℕ) → t < n → setAt m sheet t ≡ getD (d .shares) t noShare .bound
-  set-at t l = set-back m (getD (d .shares) t noShare .bound) sheet (shareStart m t + 3) (valid .small) (set-small t l) (set-bytes t l)
+  set-at : (t : ℕ) → t < n → T (present r t) → setAt m sheet t ≡ getD (d .shares) t noShare .bound
+  set-at t l here = set-back m (getD (d .shares) t noShare .bound) sheet (shareStart m t + 3) (valid .small) (set-small t l here) (set-bytes t l)
 
   -- ---- the form
 
@@ -170,7 +171,7 @@ module _ (r : Reading) (valid : Valid r) (row : List Valuation) (same : row ≡ 
     | inr b ↦ holder-team n (D g) (holderAt sheet g) (sym (holder-at g l)) b
   ]
 
-  formed : Formed m n sheet
+  formed : Formed m n (present r) sheet
   formed =
       let e = ends in
       let f = starts in
@@ -186,10 +187,13 @@ module _ (r : Reading) (valid : Valid r) (row : List Valuation) (same : row ≡ 
         bound-set = λ k l. rw (bound-bytes k l) (set-formed m (d .bound) k bound-small);
         share-byte = λ t l. ap (λ (i : ℕ). getD sheet i 0) (plus-zero (shareStart m t)) ∙ page-at t l 0 (omega arith) ∙ page-head t 0 (getD (d .shares) t noShare) (omega arith);
         share-team = λ t l. page-at t l 1 (omega arith) ∙ page-head t 1 (getD (d .shares) t noShare) (omega arith);
-        share-set = λ t l k b. rw (set-bytes t l k b) (set-formed m (getD (d .shares) t noShare .bound) k (set-small t l));
         part-byte = λ t l g b. ap (λ (i : ℕ). getD sheet i 0) (plus-zero (partStart m t g)) ∙ part-at t l g b 0 (omega arith);
         part-item = λ t l g b. part-at t l g b 1 (omega arith);
-        part-below = λ t l g b. rw (part-is t l g b) (div .shares .at t l .below g b);
+        share-set = λ t l here k b. rw (set-bytes t l k b) (set-formed m (getD (d .shares) t noShare .bound) k (set-small t l here));
+        part-below = λ t l here g b. rw (part-is t l g b) (div .shares .at t l here .below g b);
+        away-share = λ t l away. share-at t l ∙ ap (λ (x : Shared). x .share) (div .shares .away t l away);
+        away-set = λ t l away k b. set-bytes t l k b ∙ ap (λ (x : Shared). setBytes (x .bound) k) (div .shares .away t l away) ∙ set-zero k;
+        away-part = λ t l away g b. part-is t l g b ∙ ap (λ (x : Shared). getD (x .part) g 0) (div .shares .away t l away) ∙ getD-replicate 64 g 0 0 (let small = valid .small in omega arith);
         end-byte = at (shareStart m n) (omega arith) ∙ w .end;
       }
 
@@ -228,14 +232,14 @@ module _ (r : Reading) (valid : Valid r) (row : List Valuation) (same : row ≡ 
         ∙ subst
         (λ (M : ℕ → Matroid m). size m (complement (bit (d .bound))) + sum n (λ t. worth (agent t) (bit (d .bound))) ≡ size m (complement (bit (boundAt m sheet))) + sum n (λ t. worth (M t) (bit (boundAt m sheet))))
         teams (rw bound-at refl);
-    reached = λ t l p b.
-        let fair = div .shares .at t l .fair p b in
+    reached = λ t l here k b.
+        let fair = div .shares .at t l here .fair k b in
         let s = share-at t l in
-        let alike = same-part t l p in
-        subst (λ (M : ℕ → Matroid m). shareAt m sheet t ≤ worth (M t) (bundle (partAt m sheet t) p)) teams (omega arith);
-    limited = λ t l.
-        subst (λ (M : ℕ → Matroid m). size m (complement (bit (setAt m sheet t))) + n * worth (M t) (bit (setAt m sheet t)) < n * (shareAt m sheet t + 1)) teams
-        (rw (share-at t l, set-at t l) (div .shares .at t l .tight));
+        let alike = same-part t l k in
+        subst (λ (M : ℕ → Matroid m). shareAt m sheet t ≤ worth (M t) (bundle (partAt m sheet t) k)) teams (omega arith);
+    limited = λ t l here.
+        subst (λ (M : ℕ → Matroid m). size m (complement (bit (setAt m sheet t))) + presentCount r * worth (M t) (bit (setAt m sheet t)) < presentCount r * (shareAt m sheet t + 1)) teams
+        (rw (share-at t l, set-at t l here) (div .shares .at t l here .tight));
     enough = λ t l. let s = share-at t l in let alike = same-size t in let reached = div .reached t l in omega arith;
   }
 

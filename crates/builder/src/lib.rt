@@ -31,7 +31,7 @@ pub fn build(plan: &[u8], buffer: &mut [u8]) -> Built
         n: r.n,
         valuations,
     };
-    let d = engine::divide::divide(agents);
+    let d = engine::divide::divide(agents, plan::present_of(r));
     let h = d.holding;
     let total = engine::share::count_given(h) as u8;
     write::write_sheet(buffer, r.m, r.n, total, d);

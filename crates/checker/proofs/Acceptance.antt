@@ -1,11 +1,11 @@
 -- Check accepts a sheet exactly where the facts about its fields hold, and then what the sheet states is true.
 use Prim.Native.Nat.{ℕ, _+_, _*_, _≤_, _<_}
 use mathlib.Core.Path.{_≡_, refl, sym, ap, _∙_}
-use mathlib.Core.Bool.{Bool, true, false, _&&_, not, cond, false≢true}
+use mathlib.Core.Bool.{Bool, true, false, _&&_, _||_, not, cond, false≢true}
 use mathlib.Core.List.{List}
 use native.Mathlib.Omega.{arith}
 use native.Mathlib.Nat.{lt-of-mul-lt-mul-left}
-use lib.Dec.{eqb, leb}
+use lib.Dec.{T, eqb, leb}
 use borrow.Author.Tests.{lt-ltb, le-ltb, ltb-true, ltb-false, le-leb, leb-true, eq-eqb, eqb-true, not-false}
 use Rattle.matroid.specs.Set.{Set, _∩_, complement, size}
 use Rattle.matroid.specs.SetLaws.{within-refl, inter-left, inter-most, size-same}
@@ -20,17 +20,17 @@ use Rattle.matroid.proofs.Sums.{sum-same, sum-const}
 use Rattle.matroid.proofs.Rank.{worth-indep, indep-worth}
 use Rattle.matroid.proofs.Duality.{weak-duality}
 use Rattle.matroid.proofs.Shares.{share-most, share-bound}
+use Rattle.matroid.proofs.Present.{present-some}
 use Rattle.matroid.proofs.Optimum.{best-most, best-attained}
 use Rattle.sets.specs.Bits.{bit}
 use Rattle.plan.specs.declared.Reading.{Reading}
 use Rattle.plan.specs.Read.{readPlan}
-use Rattle.plan.specs.Teams.{teamMatroid}
+use Rattle.plan.specs.Teams.{teamMatroid, present, presentCount}
 use Rattle.sheet.specs.Fields.{totalAt, holderAt, boundAt, shareAt, setAt, partAt}
-use Rattle.sheet.specs.Form.{form}
 use Rattle.sheet.proofs.Forming.{form-passes, passes-form, formed-passes, passes-formed}
 use Rattle.checker.specs.declared.Verdict.{Verdict}
 use Rattle.checker.specs.declared.Verdict.the-variants.{Accepted, Refused}
-use Rattle.checker.specs.Rules.{independent, dependentAt, boundOf, totalHolds, partsHold, shareHolds, wrongShareAt, shortAt}
+use Rattle.checker.specs.Rules.{independent, dependentAt, boundOf, totalHolds, partsHold, shareHolds, shareTest, wrongShareAt, shortAt}
 use Rattle.checker.specs.Check.{verdictOf, checkSheet}
 use Rattle.checker.specs.Stated.{Stated}
 use Rattle.checker.specs.Fair.{FairBy, Fair}
@@ -48,6 +48,15 @@ and-right : (a b : Bool) → (a && b) ≡ true → b ≡ true
 and-right true b e = e
 and-right false b e = absurd (false≢true e)
 
+-- a test of those present alone: where one is present it decides, and where it passes for one that is present it passes
+pub tested : (a b : Bool) → (not a || b) ≡ true → T a → b ≡ true
+tested true b e here = e
+tested false b e here = absurd here
+
+pub passed : (a b : Bool) → (T a → b ≡ true) → (not a || b) ≡ true
+passed true b h = h tt
+passed false b h = refl
+
 -- ---- what is accepted keeps every rule
 
 refused-not : (number place : ℕ) → Accepted ≡ Refused number place → ⊥
@@ -58,20 +67,21 @@ unbroken true number place rest h = absurd (refused-not number place h)
 unbroken false number place rest h = (refl, h)
 
 module _ (r : Reading) (sheet : List ℕ) where
-  -- the test of rule 15 for a team
+  -- the test of rule 15 for a team present
   unfoldable pub share-test : ℕ → Bool
-  share-test t = shareHolds (teamMatroid r t) (r .n) (shareAt (r .m) sheet t) (setAt (r .m) sheet t) (partAt (r .m) sheet t)
+  share-test t = shareHolds (teamMatroid r t) (presentCount r) (shareAt (r .m) sheet t) (setAt (r .m) sheet t) (partAt (r .m) sheet t)
 
   -- ---- from acceptance to the facts
 
   -- rule 15 for one team
-  pub share-reached : (t : ℕ) → share-test t ≡ true → (p : ℕ) → p < r .n → shareAt (r .m) sheet t ≤ worth (teamMatroid r t) (bundle (partAt (r .m) sheet t) p)
+  pub share-reached : (t : ℕ) → share-test t ≡ true → (k : ℕ) → k < presentCount r → shareAt (r .m) sheet t ≤ worth (teamMatroid r t) (bundle (partAt (r .m) sheet t) k)
   unfolding share-test shareHolds partsHold
-  share-reached t e p l = leb-true _ _ (every-all (r .n) (λ p. leb (shareAt (r .m) sheet t) (worth (teamMatroid r t) (bundle (partAt (r .m) sheet t) p))) (and-left _ _ e) p l)
+  share-reached t e k l = leb-true _ _ (every-all (presentCount r) (λ k. leb (shareAt (r .m) sheet t) (worth (teamMatroid r t) (bundle (partAt (r .m) sheet t) k))) (and-left _ _ e) k l)
 
-  pub share-limited : (t : ℕ) → share-test t ≡ true → size (r .m) (complement (bit (setAt (r .m) sheet t))) + r .n * worth (teamMatroid r t) (bit (setAt (r .m) sheet t)) < r .n * (shareAt (r .m) sheet t + 1)
+  pub share-limited : (t : ℕ) → share-test t ≡ true
+      → size (r .m) (complement (bit (setAt (r .m) sheet t))) + presentCount r * worth (teamMatroid r t) (bit (setAt (r .m) sheet t)) < presentCount r * (shareAt (r .m) sheet t + 1)
   unfolding share-test shareHolds
-  share-limited t e = ltb-true _ _ (and-right (partsHold (teamMatroid r t) (r .n) (shareAt (r .m) sheet t) (partAt (r .m) sheet t)) _ e)
+  share-limited t e = ltb-true _ _ (and-right (partsHold (teamMatroid r t) (presentCount r) (shareAt (r .m) sheet t) (partAt (r .m) sheet t)) _ e)
 
   -- rule 14
   pub total-given : totalHolds (r .n) (teamMatroid r) sheet ≡ true → totalAt sheet ≡ size (r .m) (held (r .n) (holderAt sheet))
@@ -87,9 +97,9 @@ module _ (r : Reading) (sheet : List ℕ) where
   unfolding dependentAt
   all-independent h t l = lowest-all (r .n) (λ t. independent (teamMatroid r t) (bundle (holderAt sheet) t)) h t l
 
-  all-shares : r .n ≤ wrongShareAt (r .n) (teamMatroid r) sheet → (t : ℕ) → t < r .n → share-test t ≡ true
+  all-shares : r .n ≤ wrongShareAt (r .n) (present r) (teamMatroid r) sheet → (t : ℕ) → t < r .n → T (present r t) → share-test t ≡ true
   unfolding wrongShareAt share-test
-  all-shares h t l = lowest-all (r .n) (λ t. shareHolds (teamMatroid r t) (r .n) (shareAt (r .m) sheet t) (setAt (r .m) sheet t) (partAt (r .m) sheet t)) h t l
+  all-shares h t l = tested (present r t) _ (lowest-all (r .n) (shareTest (r .n) (present r) (teamMatroid r) sheet) h t l)
 
   all-enough : r .n ≤ shortAt (r .m) (r .n) sheet → (t : ℕ) → t < r .n → shareAt (r .m) sheet t ≤ size (r .m) (bundle (holderAt sheet) t)
   unfolding shortAt
@@ -110,12 +120,12 @@ module _ (r : Reading) (sheet : List ℕ) where
       record {
         read = eqb-true _ _ (not-false _ read);
         long = eqb-true _ _ (not-false _ long);
-        formed = passes-formed sheet (r .m) (r .n) (form-passes sheet (r .m) (r .n) (ltb-false _ _ form));
+        formed = passes-formed sheet (r .m) (r .n) (present r) (form-passes sheet (r .m) (r .n) (present r) (ltb-false _ _ form));
         independent = λ t l. indep-worth (teamMatroid r t) (bundle (holderAt sheet) t) (independent-worth (teamMatroid r t) (bundle (holderAt sheet) t) (all-independent (ltb-false _ _ indep) t l));
         given = total-given holds;
         bound = total-bound holds;
-        reached = λ t l. share-reached t (shown t l);
-        limited = λ t l. share-limited t (shown t l);
+        reached = λ t l here. share-reached t (shown t l here);
+        limited = λ t l here. share-limited t (shown t l here);
         enough = all-enough (ltb-false _ _ short);
       }
 
@@ -131,18 +141,20 @@ module _ (r : Reading) (sheet : List ℕ) where
     unfolding totalHolds boundOf
     total-holds = rw (eq-eqb _ _ (s .given), eq-eqb _ _ (s .bound)) refl
 
-    share-holds : (t : ℕ) → t < r .n → share-test t ≡ true
+    share-holds : (t : ℕ) → t < r .n → T (present r t) → share-test t ≡ true
     unfolding share-test shareHolds partsHold
-    share-holds t l =
+    share-holds t l here =
         rw (
-          every-true (r .n) (λ p. leb (shareAt (r .m) sheet t) (worth (teamMatroid r t) (bundle (partAt (r .m) sheet t) p))) (λ p b. le-leb _ _ (s .reached t l p b)),
-          lt-ltb _ _ (s .limited t l),
+          every-true (presentCount r) (λ k. leb (shareAt (r .m) sheet t) (worth (teamMatroid r t) (bundle (partAt (r .m) sheet t) k))) (λ k b. le-leb _ _ (s .reached t l here k b)),
+          lt-ltb _ _ (s .limited t l here),
         )
         refl
 
-    none-wrong : r .n ≡ wrongShareAt (r .n) (teamMatroid r) sheet
+    none-wrong : r .n ≡ wrongShareAt (r .n) (present r) (teamMatroid r) sheet
     unfolding wrongShareAt share-test
-    none-wrong = lowest-none (r .n) (λ t. shareHolds (teamMatroid r t) (r .n) (shareAt (r .m) sheet t) (setAt (r .m) sheet t) (partAt (r .m) sheet t)) share-holds
+    none-wrong =
+        lowest-none (r .n) (shareTest (r .n) (present r) (teamMatroid r) sheet)
+        (λ t l. passed (present r t) _ (share-holds t l))
 
     none-short : r .n ≡ shortAt (r .m) (r .n) sheet
     unfolding shortAt
@@ -157,10 +169,10 @@ module _ (r : Reading) (sheet : List ℕ) where
         sym
         (kept _ _ _ Accepted (ap not (eq-eqb _ _ (s .read)))
         (kept _ _ _ Accepted (ap not (eq-eqb _ _ (s .long)))
-        (kept _ _ _ Accepted (le-ltb _ _ (passes-form sheet (r .m) (r .n) (formed-passes sheet (r .m) (r .n) (s .formed))))
+        (kept _ _ _ Accepted (le-ltb _ _ (passes-form sheet (r .m) (r .n) (present r) (formed-passes sheet (r .m) (r .n) (present r) (s .formed))))
         (kept _ _ _ Accepted (le-ltb (dependentAt (r .n) (teamMatroid r) (holderAt sheet)) (r .n) (omega arith))
         (kept _ _ _ Accepted (ap not total-holds)
-        (kept _ _ _ Accepted (le-ltb (wrongShareAt (r .n) (teamMatroid r) sheet) (r .n) (omega arith))
+        (kept _ _ _ Accepted (le-ltb (wrongShareAt (r .n) (present r) (teamMatroid r) sheet) (r .n) (omega arith))
         (kept _ _ _ Accepted (le-ltb (shortAt (r .m) (r .n) sheet) (r .n) (omega arith)) refl)))))))
 
     -- ---- from the facts to what they mean
@@ -190,32 +202,35 @@ module _ (r : Reading) (sheet : List ℕ) where
     total-best : (D : ℕ → ℕ) → total (r .n) (teamMatroid r) D ≤ totalAt sheet
     total-best D = let b = s .bound in let w = weak-duality (r .n) (teamMatroid r) D (bit (boundAt (r .m) sheet)) in omega arith
 
-    module _ (t : ℕ) (l : t < r .n) where
+    module _ (t : ℕ) (l : t < r .n) (here : T (present r t)) where
       -- the PARTs are a cut whose every part is worth the share, so it is no more than the team's share
-      share-le : shareAt (r .m) sheet t ≤ share (teamMatroid r t) (r .n)
-      share-le = share-most (teamMatroid r t) (r .n) (omega arith) (shareAt (r .m) sheet t) (record { part = partAt (r .m) sheet t; below = s .formed .part-below t l; fair = s .reached t l })
+      share-le : shareAt (r .m) sheet t ≤ share (teamMatroid r t) (presentCount r)
+      share-le =
+          share-most (teamMatroid r t) (presentCount r) (present-some (r .n) (present r) t l here) (shareAt (r .m) sheet t)
+          (record { part = partAt (r .m) sheet t; below = s .formed .part-below t l here; fair = s .reached t l here })
 
       -- and the set allows none that is larger
-      share-ge : share (teamMatroid r t) (r .n) < shareAt (r .m) sheet t + 1
+      share-ge : share (teamMatroid r t) (presentCount r) < shareAt (r .m) sheet t + 1
       share-ge =
-          let b = share-bound (teamMatroid r t) (r .n) (omega arith) (bit (setAt (r .m) sheet t)) in
-          let m = s .limited t l in
-          lt-of-mul-lt-mul-left (r .n) (omega arith)
+          let b = share-bound (teamMatroid r t) (presentCount r) (present-some (r .n) (present r) t l here) (bit (setAt (r .m) sheet t)) in
+          let m = s .limited t l here in
+          lt-of-mul-lt-mul-left (presentCount r) (omega arith)
 
-      share-true : shareAt (r .m) sheet t ≡ share (teamMatroid r t) (r .n)
+      share-true : shareAt (r .m) sheet t ≡ share (teamMatroid r t) (presentCount r)
       share-true = let a = share-le in let b = share-ge in omega arith
 
       -- were every part of a cut worth more than the share, they would be worth more in all than the set allows
-      cut-matched : (C : ℕ → ℕ) → Cuts (r .m) (r .n) C → (p : ℕ) × (p < r .n) × (worth (teamMatroid r t) (bundle C p) ≤ worth (teamMatroid r t) (bundle (holderAt sheet) t))
+      cut-matched : (C : ℕ → ℕ) → Cuts (r .m) (presentCount r) C
+          → (k : ℕ) × (k < presentCount r) × (worth (teamMatroid r t) (bundle C k) ≤ worth (teamMatroid r t) (bundle (holderAt sheet) t))
       cut-matched C cut =
-          let dual = weak-duality (r .n) (λ _. teamMatroid r t) C (bit (setAt (r .m) sheet t)) in
-          let each-set = sum-const (r .n) (worth (teamMatroid r t) (bit (setAt (r .m) sheet t))) in
-          let each-share = sum-const (r .n) (shareAt (r .m) sheet t + 1) in
-          let m = s .limited t l in
-          let (p, b, less) = sum-less (r .n) (λ p. worth (teamMatroid r t) (bundle C p)) (λ p. shareAt (r .m) sheet t + 1) (omega arith) in
+          let dual = weak-duality (presentCount r) (λ _. teamMatroid r t) C (bit (setAt (r .m) sheet t)) in
+          let each-set = sum-const (presentCount r) (worth (teamMatroid r t) (bit (setAt (r .m) sheet t))) in
+          let each-share = sum-const (presentCount r) (shareAt (r .m) sheet t + 1) in
+          let m = s .limited t l here in
+          let (k, b, less) = sum-less (presentCount r) (λ k. worth (teamMatroid r t) (bundle C k)) (λ k. shareAt (r .m) sheet t + 1) (omega arith) in
           let w = held-worth t l in
           let e = s .enough t l in
-          (p, b, omega arith)
+          (k, b, omega arith)
 
     pub fair-stated : FairBy r sheet
     fair-stated = record { total-true = total-true; total-best = total-best; shares-true = share-true; cut-matched = cut-matched }

@@ -10,7 +10,7 @@ use borrow.Author.Tests.{le-leb, lt-leb}
 use lib.Dec.{T, eqb, leb, ltb}
 use lib.ListN.{length, getD, take, drop, length-take, length-drop}
 use lib.Seq.{getD-take, getD-drop}
-use Rattle.matroid.specs.Set.{complement, size}
+use Rattle.matroid.specs.Set.{Set, complement, size}
 use Rattle.matroid.specs.Matroid.{Matroid, worth}
 use Rattle.matroid.specs.Division.{bundle}
 use Rattle.matroid.proofs.Rank.{worth-same}
@@ -19,7 +19,7 @@ use Rattle.sets.specs.Bundles.{Bundles}
 use Rattle.sheet.specs.Layout.{shareStart}
 use Rattle.sheet.specs.Fields.{wordAt, holderAt, shareAt, setAt, partAt}
 use Rattle.sheet.specs.Named.{named}
-use Rattle.checker.specs.Rules.{partsHold, shareHolds, wrongShareAt, shortAt}
+use Rattle.checker.specs.Rules.{partsHold, shareHolds, shareTest, wrongShareAt, shortAt}
 use Rattle.checker.proofs.Lowest.{lowest-at, lowest-none, every-true, every-false, every-same}
 use Rattle.checker.proofs.Bundles.{counted, worth-word, size-word}
 
@@ -83,41 +83,53 @@ product-small n v a b = mul-le-mul a b
 pub stretch-long : (sheet : List ℕ) (m start : ℕ) → start + 3 * m ≤ length sheet → 3 * m ≤ length (take (start + 3 * m - start) (drop start sheet))
 stretch-long sheet m start l = simp (length-take, length-drop) (omega arith)
 
+-- the share of one team, as the code has it
+module _ (m p : ℕ) (N : Matroid m) (sheet : List ℕ) (t at set start end : ℕ) (v : Bool) (is-at : at ≡ shareStart m t) (is-set : set ≡ wordAt sheet (at + 3)) (is-start : start ≡ at + 11) (is-end : end ≡ start + 3 * m)
+    (is-v : v ≡ shareHolds N p (getD sheet (at + 2) 0) set (named (take (end - start) (drop start sheet)))) where
+  stretch : (g : ℕ) → g < m → named (take (end - start) (drop start sheet)) g ≡ partAt m sheet t g
+  stretch g l =
+      getD-take (end - start) (drop start sheet) (3 * g + 2) 0 (omega arith)
+      ∙ getD-drop start sheet (3 * g + 2) 0
+      ∙ ap (λ (x : ℕ). getD sheet x 0) (omega arith)
+
+  pub team-shown : v ≡ shareHolds N p (shareAt m sheet t) (setAt m sheet t) (partAt m sheet t)
+  team-shown =
+      is-v
+      ∙ share-agree N p (getD sheet (at + 2) 0) set (named (take (end - start) (drop start sheet))) (partAt m sheet t) stretch
+      ∙ ap (λ (x : ℕ). shareHolds N p (getD sheet (at + 2) 0) x (partAt m sheet t)) is-set
+      ∙ ap (λ (x : ℕ). shareHolds N p (getD sheet (x + 2) 0) (wordAt sheet (x + 3)) (partAt m sheet t)) is-at
+
 -- the shares of the first t teams hold
-pub record Shown {m : ℕ} (n : ℕ) (M : ℕ → Matroid m) (sheet : List ℕ) (t : ℕ) : Type 0 where
-  pub at : (k : ℕ) → k < t → shareHolds (M k) n (shareAt m sheet k) (setAt m sheet k) (partAt m sheet k) ≡ true
+pub record Shown {m : ℕ} (n : ℕ) (present : Set) (M : ℕ → Matroid m) (sheet : List ℕ) (t : ℕ) : Type 0 where
+  pub at : (k : ℕ) → k < t → shareTest n present M sheet k ≡ true
 
-pub shown-none : {m : ℕ} (n : ℕ) (M : ℕ → Matroid m) (sheet : List ℕ) → Shown n M sheet 0
-shown-none n M sheet = record { at = λ k l. absurd (omega arith) }
+pub shown-none : {m : ℕ} (n : ℕ) (present : Set) (M : ℕ → Matroid m) (sheet : List ℕ) → Shown n present M sheet 0
+shown-none n present M sheet = record { at = λ k l. absurd (omega arith) }
 
-module _ (m n : ℕ) (M : ℕ → Matroid m) (sheet : List ℕ) (t : ℕ) (h : Shown n M sheet t) where
-  -- the test of team t, as the code has it
-  module _ (N : Matroid m) (is-N : _≡_ {A = Matroid m} N (M t)) (at set start end : ℕ) (v : Bool) (is-at : at ≡ shareStart m t) (is-set : set ≡ wordAt sheet (at + 3)) (is-start : start ≡ at + 11) (is-end : end ≡ start + 3 * m)
-      (is-v : v ≡ shareHolds N n (getD sheet (at + 2) 0) set (named (take (end - start) (drop start sheet)))) where
-    stretch : (g : ℕ) → g < m → named (take (end - start) (drop start sheet)) g ≡ partAt m sheet t g
-    stretch g l =
-        getD-take (end - start) (drop start sheet) (3 * g + 2) 0 (omega arith)
-        ∙ getD-drop start sheet (3 * g + 2) 0
-        ∙ ap (λ (x : ℕ). getD sheet x 0) (omega arith)
+module _ (m n : ℕ) (present : Set) (M : ℕ → Matroid m) (sheet : List ℕ) (t : ℕ) (h : Shown n present M sheet t) where
+  shown-more : shareTest n present M sheet t ≡ true → Shown n present M sheet (t + 1)
+  shown-more e = record { at = below-more (λ k. shareTest n present M sheet k ≡ true) t (h .at) e }
 
-    here : v ≡ shareHolds (M t) n (shareAt m sheet t) (setAt m sheet t) (partAt m sheet t)
-    here =
-        is-v
-        ∙ ap (λ (x : Matroid m). shareHolds x n (getD sheet (at + 2) 0) set (named (take (end - start) (drop start sheet)))) is-N
-        ∙ share-agree (M t) n (getD sheet (at + 2) 0) set (named (take (end - start) (drop start sheet))) (partAt m sheet t) stretch
-        ∙ ap (λ (x : ℕ). shareHolds (M t) n (getD sheet (at + 2) 0) x (partAt m sheet t)) is-set
-        ∙ ap (λ (x : ℕ). shareHolds (M t) n (getD sheet (x + 2) 0) (wordAt sheet (x + 3)) (partAt m sheet t)) is-at
+  -- a team that is away is not tested
+  pub shown-away : (here : Bool) → here ≡ present t → here ≡ false → Shown n present M sheet (t + 1)
+  shown-away here is-here away = shown-more (rw (sym is-here ∙ away) refl)
 
-    pub shown-next : v ≡ true → Shown n M sheet (t + 1)
-    shown-next e = record { at = below-more (λ k. shareHolds (M k) n (shareAt m sheet k) (setAt m sheet k) (partAt m sheet k) ≡ true) t (h .at) (sym here ∙ e) }
+  -- the test of team t, which is present
+  module _ (here : Bool) (is-here : here ≡ present t) (yes-here : here ≡ true) (N : Matroid m) (is-N : _≡_ {A = Matroid m} N (M t)) (p : ℕ) (is-p : p ≡ size n present) (v : Bool)
+      (is-v : v ≡ shareHolds N p (shareAt m sheet t) (setAt m sheet t) (partAt m sheet t)) where
+    tested : v ≡ shareTest n present M sheet t
+    tested = rw (sym is-here ∙ yes-here) (is-v ∙ rw (is-N, is-p) refl)
 
-    pub shown-stop : t < n → v ≡ false → t ≡ wrongShareAt n M sheet
+    pub shown-next : v ≡ true → Shown n present M sheet (t + 1)
+    shown-next e = shown-more (sym tested ∙ e)
+
+    pub shown-stop : t < n → v ≡ false → t ≡ wrongShareAt n present M sheet
     unfolding wrongShareAt
-    shown-stop l e = lowest-at n (λ t. shareHolds (M t) n (shareAt m sheet t) (setAt m sheet t) (partAt m sheet t)) t l (h .at) (sym here ∙ e)
+    shown-stop l e = lowest-at n (shareTest n present M sheet) t l (h .at) (sym tested ∙ e)
 
-  pub shown-done : n ≤ t → n ≡ wrongShareAt n M sheet
+  pub shown-done : n ≤ t → n ≡ wrongShareAt n present M sheet
   unfolding wrongShareAt
-  shown-done g = lowest-none n (λ t. shareHolds (M t) n (shareAt m sheet t) (setAt m sheet t) (partAt m sheet t)) (λ k b. h .at k (omega arith))
+  shown-done g = lowest-none n (shareTest n present M sheet) (λ k b. h .at k (omega arith))
 
 -- ---- what is held
 

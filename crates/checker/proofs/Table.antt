@@ -11,14 +11,14 @@ use Rattle.matroid.specs.Division.{bundle}
 use Rattle.sets.specs.Bits.{bit}
 use Rattle.plan.specs.declared.Reading.{Reading}
 use Rattle.plan.specs.Read.{readPlan}
-use Rattle.plan.specs.Teams.{teamMatroid}
-use Rattle.plan.proofs.Table.{worthIn, alike, worth-alike, appendixD, appendixD-sheet, appendixD-refusal, appendixD-m, appendixD-n, appendixD-0-none, appendixD-0-rest, appendixD-0-bundle, appendixD-0-part-0, appendixD-0-part-1, appendixD-1-none, appendixD-1-bundle, appendixD-1-part-0, appendixD-1-part-1}
+use Rattle.plan.specs.Teams.{teamMatroid, present}
+use Rattle.plan.proofs.Table.{worthIn, alike, worth-alike, appendixD, appendixD-sheet, appendixD-refusal, appendixD-m, appendixD-n, appendixD-present, appendixD-0-none, appendixD-0-rest, appendixD-0-bundle, appendixD-0-part-0, appendixD-0-part-1, appendixD-1-none, appendixD-1-bundle, appendixD-1-part-0, appendixD-1-part-1}
 use Rattle.sheet.specs.Layout.{lengthOf, shareStart}
-use Rattle.sheet.specs.Fields.{numberAt, holderAt, shareAt, setAt, partAt}
+use Rattle.sheet.specs.Fields.{numberAt, holderAt, partAt}
 use Rattle.sheet.specs.Form.{set, form, firstFault}
 use Rattle.checker.specs.declared.Verdict.the-variants.{Refused}
 use Rattle.checker.specs.Tests.{every, lowestFailing}
-use Rattle.checker.specs.Rules.{independent, dependentAt, boundOf, totalHolds, partsHold, shareHolds, wrongShareAt, shortAt}
+use Rattle.checker.specs.Rules.{independent, dependentAt, boundOf, totalHolds, partsHold, shareHolds, shareTest, wrongShareAt, shortAt}
 use Rattle.checker.specs.Check.{verdictOf, checkSheet}
 use Rattle.checker.proofs.Lowest.{lowest-none}
 use Rattle.checker.proofs.Bundles.{independent-yes}
@@ -50,10 +50,14 @@ both P a b zero l = a
 both P a b (suc zero) l = b
 both P a b (suc (suc t)) l = absurd (omega arith)
 
+-- both teams are present
+is-present : (t : ℕ) → t < 2 → present r t ≡ true
+is-present t l = subst (λ (x : Reading). present x t ≡ true) is-r (both (λ t. present (readPlan appendixD) t ≡ true) (appendixD-present .0) (appendixD-present .1) t l)
+
 -- 12: the sheet has its form
-passes : 90 ≡ firstFault (form 6 2) appendixD-sheet 0
+passes : 90 ≡ firstFault (form 6 2 (present r)) appendixD-sheet 0
 unfolding firstFault form set
-passes = refl
+passes = rw (is-present 0 (omega arith), is-present 1 (omega arith)) refl
 
 -- 13: both bundles are independent
 none-dependent : 2 ≡ dependentAt 2 (teamMatroid r) (holderAt appendixD-sheet)
@@ -71,19 +75,23 @@ unfolding totalHolds boundOf numberAt bit
 total-holds = rw (worth-word 0 0 0 appendixD-0-none, worth-word 1 0 0 appendixD-1-none) refl
 
 -- 15: both shares hold
-none-wrong : 2 ≡ wrongShareAt 2 (teamMatroid r) appendixD-sheet
+none-wrong : 2 ≡ wrongShareAt 2 (present r) (teamMatroid r) appendixD-sheet
 unfolding wrongShareAt shareHolds partsHold every numberAt shareStart bit
 none-wrong =
     let C = partAt 6 appendixD-sheet in
-    lowest-none 2 (λ t. shareHolds (teamMatroid r t) 2 (shareAt 6 appendixD-sheet t) (setAt 6 appendixD-sheet t) (C t))
-    (both (λ t. shareHolds (teamMatroid r t) 2 (shareAt 6 appendixD-sheet t) (setAt 6 appendixD-sheet t) (C t) ≡ true)
+    lowest-none 2 (shareTest 2 (present r) (teamMatroid r) appendixD-sheet)
+    (both (λ t. shareTest 2 (present r) (teamMatroid r) appendixD-sheet t ≡ true)
     (rw (
+      is-present 0 (omega arith),
+      is-present 1 (omega arith),
       worth-set 0 21 3 (bundle (C 0) 0) appendixD-0-part-0 tt,
       worth-set 0 42 3 (bundle (C 0) 1) appendixD-0-part-1 tt,
       worth-word 0 15 2 appendixD-0-rest,
     )
     refl)
     (rw (
+      is-present 0 (omega arith),
+      is-present 1 (omega arith),
       worth-set 1 7 3 (bundle (C 1) 0) appendixD-1-part-0 tt,
       worth-set 1 56 3 (bundle (C 1) 1) appendixD-1-part-1 tt,
       worth-word 1 0 0 appendixD-1-none,
@@ -100,5 +108,5 @@ unfolding lengthOf
 appendixD-check =
     ap (λ (x : Reading). verdictOf x appendixD-sheet) is-r
     ∙ sym
-    (judge-rest r appendixD-sheet refl 90 refl refl 90 passes (omega arith) (Refused 16 0)
-    (weigh-16 r appendixD-sheet (teamMatroid r) refl 2 none-dependent (omega arith) total-holds 2 none-wrong (omega arith) 0 first-short (omega arith)))
+    (judge-rest r appendixD-sheet refl 90 refl refl (present r) refl 90 passes (omega arith) (Refused 16 0)
+    (weigh-16 r appendixD-sheet (teamMatroid r) refl 2 none-dependent (omega arith) total-holds (present r) refl 2 none-wrong (omega arith) 0 first-short (omega arith)))

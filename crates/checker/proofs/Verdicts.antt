@@ -9,12 +9,12 @@ use lib.Dec.{eqb, ltb}
 use lib.ListN.{length, getD, take, drop, length-take, length-drop}
 use lib.Seq.{getD-take, getD-drop}
 use borrow.Author.Tests.{lt-ltb, le-ltb, eq-eqb, ne-eqb}
-use Rattle.matroid.specs.Set.{size}
+use Rattle.matroid.specs.Set.{Set, size}
 use Rattle.matroid.specs.Matroid.{Matroid}
 use Rattle.matroid.specs.Division.{held}
 use Rattle.sets.specs.Bundles.{Bundles}
 use Rattle.plan.specs.declared.Reading.{Reading}
-use Rattle.plan.specs.Teams.{teamMatroid}
+use Rattle.plan.specs.Teams.{teamMatroid, present}
 use Rattle.sheet.specs.Layout.{lengthOf}
 use Rattle.sheet.specs.Fields.{wordAt, totalAt, holderAt, boundAt}
 use Rattle.sheet.specs.Form.{form, firstFault}
@@ -86,25 +86,25 @@ module _ (r : Reading) (sheet : List ℕ) (M : ℕ → Matroid (r .m)) (is-M : _
   weigh-13 l = ap (Refused 13) is-d ∙ broken _ _ _ (lt-ltb (dependentAt (r .n) (teamMatroid r) (holderAt sheet)) (r .n) (omega (arith, is-d)))
 
   module _ (kept-13 : r .n ≤ d) where
-    past-13 : (v : Verdict) → v ≡ firstBroken Accepted (rule (not (totalHolds (r .n) (teamMatroid r) sheet)) (Refused 14 0) ∷ rule (ltb (wrongShareAt (r .n) (teamMatroid r) sheet) (r .n)) (Refused 15 (wrongShareAt (r .n) (teamMatroid r) sheet)) ∷ rule (ltb (shortAt (r .m) (r .n) sheet) (r .n)) (Refused 16 (shortAt (r .m) (r .n) sheet)) ∷ []) → v ≡ firstBroken Accepted (divisionRules Refused r sheet)
+    past-13 : (v : Verdict) → v ≡ firstBroken Accepted (rule (not (totalHolds (r .n) (teamMatroid r) sheet)) (Refused 14 0) ∷ rule (ltb (wrongShareAt (r .n) (present r) (teamMatroid r) sheet) (r .n)) (Refused 15 (wrongShareAt (r .n) (present r) (teamMatroid r) sheet)) ∷ rule (ltb (shortAt (r .m) (r .n) sheet) (r .n)) (Refused 16 (shortAt (r .m) (r .n) sheet)) ∷ []) → v ≡ firstBroken Accepted (divisionRules Refused r sheet)
     past-13 v h = kept _ _ _ v (le-ltb (dependentAt (r .n) (teamMatroid r) (holderAt sheet)) (r .n) (omega (arith, is-d))) h
 
     pub weigh-14 : totalHolds (r .n) M sheet ≡ false → Refused 14 0 ≡ firstBroken Accepted (divisionRules Refused r sheet)
     weigh-14 e = past-13 (Refused 14 0) (broken _ _ _ (ap not (by-total false e)))
 
-    module _ (holds : totalHolds (r .n) M sheet ≡ true) (w : ℕ) (by-w : w ≡ wrongShareAt (r .n) M sheet) where
+    module _ (holds : totalHolds (r .n) M sheet ≡ true) (here : Set) (is-here : here ≡ present r) (w : ℕ) (by-w : w ≡ wrongShareAt (r .n) here M sheet) where
       kept-14 : totalHolds (r .n) (teamMatroid r) sheet ≡ true
       kept-14 = by-total true holds
 
-      is-w : w ≡ wrongShareAt (r .n) (teamMatroid r) sheet
-      is-w = by-w ∙ ap (λ (x : ℕ → Matroid (r .m)). wrongShareAt (r .n) x sheet) is-M
+      is-w : w ≡ wrongShareAt (r .n) (present r) (teamMatroid r) sheet
+      is-w = by-w ∙ ap (λ (x : Set). wrongShareAt (r .n) x M sheet) is-here ∙ ap (λ (x : ℕ → Matroid (r .m)). wrongShareAt (r .n) (present r) x sheet) is-M
 
       pub weigh-15 : w < r .n → Refused 15 w ≡ firstBroken Accepted (divisionRules Refused r sheet)
-      weigh-15 l = ap (Refused 15) is-w ∙ past-13 _ (kept _ _ _ _ (ap not kept-14) (broken _ _ _ (lt-ltb (wrongShareAt (r .n) (teamMatroid r) sheet) (r .n) (omega (arith, is-w)))))
+      weigh-15 l = ap (Refused 15) is-w ∙ past-13 _ (kept _ _ _ _ (ap not kept-14) (broken _ _ _ (lt-ltb (wrongShareAt (r .n) (present r) (teamMatroid r) sheet) (r .n) (omega (arith, is-w)))))
 
       module _ (kept-15 : r .n ≤ w) (k : ℕ) (is-k : k ≡ shortAt (r .m) (r .n) sheet) where
         past-15 : (v : Verdict) → v ≡ firstBroken Accepted (rule (ltb (shortAt (r .m) (r .n) sheet) (r .n)) (Refused 16 (shortAt (r .m) (r .n) sheet)) ∷ []) → v ≡ firstBroken Accepted (divisionRules Refused r sheet)
-        past-15 v h = past-13 v (kept _ _ _ v (ap not kept-14) (kept _ _ _ v (le-ltb (wrongShareAt (r .n) (teamMatroid r) sheet) (r .n) (omega (arith, is-w))) h))
+        past-15 v h = past-13 v (kept _ _ _ v (ap not kept-14) (kept _ _ _ v (le-ltb (wrongShareAt (r .n) (present r) (teamMatroid r) sheet) (r .n) (omega (arith, is-w))) h))
 
         pub weigh-16 : k < r .n → Refused 16 k ≡ firstBroken Accepted (divisionRules Refused r sheet)
         weigh-16 l = ap (Refused 16) is-k ∙ past-15 _ (broken _ _ _ (lt-ltb (shortAt (r .m) (r .n) sheet) (r .n) (omega arith)))
@@ -124,18 +124,21 @@ module _ (r : Reading) (sheet : List ℕ) where
     unfolding verdictOf
     judge-11 d = kept _ _ _ (Refused 11 0) (ap not (eq-eqb (r .refusal) 0 read)) (broken _ _ _ (ap not (ne-eqb (length sheet) (lengthOf (r .m) (r .n)) (λ e. d (e ∙ sym is-long)))))
 
-    module _ (same : length sheet ≡ long) (f : ℕ) (is-f : f ≡ firstFault (form (r .m) (r .n)) sheet 0) where
+    module _ (same : length sheet ≡ long) (here : Set) (is-here : here ≡ present r) (f : ℕ) (by-f : f ≡ firstFault (form (r .m) (r .n) here) sheet 0) where
+      is-f : f ≡ firstFault (form (r .m) (r .n) (present r)) sheet 0
+      is-f = by-f ∙ ap (λ (x : Set). firstFault (form (r .m) (r .n) x) sheet 0) is-here
+
       pub judge-12 : f < long → Refused 12 f ≡ verdictOf r sheet
       unfolding verdictOf
       judge-12 l =
           ap (Refused 12) is-f
           ∙ kept _ _ _ _ (ap not (eq-eqb (r .refusal) 0 read))
           (kept _ _ _ _ (ap not (eq-eqb (length sheet) (lengthOf (r .m) (r .n)) (same ∙ is-long)))
-          (broken _ _ _ (lt-ltb (firstFault (form (r .m) (r .n)) sheet 0) (lengthOf (r .m) (r .n)) (omega arith))))
+          (broken _ _ _ (lt-ltb (firstFault (form (r .m) (r .n) (present r)) sheet 0) (lengthOf (r .m) (r .n)) (omega (arith, is-f)))))
 
       pub judge-rest : long ≤ f → (v : Verdict) → v ≡ firstBroken Accepted (divisionRules Refused r sheet) → v ≡ verdictOf r sheet
       unfolding verdictOf
       judge-rest l v h =
           kept _ _ _ v (ap not (eq-eqb (r .refusal) 0 read))
           (kept _ _ _ v (ap not (eq-eqb (length sheet) (lengthOf (r .m) (r .n)) (same ∙ is-long)))
-          (kept _ _ _ v (le-ltb (firstFault (form (r .m) (r .n)) sheet 0) (lengthOf (r .m) (r .n)) (omega arith)) h))
+          (kept _ _ _ v (le-ltb (firstFault (form (r .m) (r .n) (present r)) sheet 0) (lengthOf (r .m) (r .n)) (omega (arith, is-f))) h))

@@ -1,7 +1,7 @@
--- The rules of Check about the division and the shares that a sheet states (document 01, "Check", 13 to 16), in worth and size. They know
--- a plan only through the matroids M of its n teams.
+-- The rules of Check about the division and the shares that a sheet states (document 01, "Check", 13 to 16; document 02, note 2), in worth and
+-- size. They know a plan only through the matroids M of its n teams, and which teams are present.
 use Prim.Native.Nat.{ℕ, _+_, _*_}
-use mathlib.Core.Bool.{Bool, _&&_}
+use mathlib.Core.Bool.{Bool, _&&_, _||_, not}
 use mathlib.Core.List.{List}
 use lib.Dec.{eqb, leb, ltb}
 use Rattle.matroid.specs.Decide.{isYes}
@@ -29,17 +29,21 @@ boundOf {m} n M T = size m (complement (bit T)) + sum n (λ t. worth (M t) (bit 
 unfoldable pub totalHolds : {m : ℕ} → (n : ℕ) → (ℕ → Matroid m) → List ℕ → Bool
 totalHolds {m} n M sheet = eqb (totalAt sheet) (size m (held n (holderAt sheet))) && eqb (totalAt sheet) (boundOf n M (boundAt m sheet))
 
--- 15: none of the n parts, an empty one included, is worth less than s
-unfoldable pub partsHold : {m : ℕ} → Matroid m → (n s : ℕ) → (C : ℕ → ℕ) → Bool
-partsHold M n s C = every n (λ p. leb s (worth M (bundle C p)))
+-- 15: none of the p parts, an empty one included, is worth less than s
+unfoldable pub partsHold : {m : ℕ} → Matroid m → (p s : ℕ) → (C : ℕ → ℕ) → Bool
+partsHold M p s C = every p (λ k. leb s (worth M (bundle C k)))
 
--- and "(instruments outside T) + n × v(T)" is "below n × (s + 1)"
-unfoldable pub shareHolds : {m : ℕ} → Matroid m → (n s T : ℕ) → (C : ℕ → ℕ) → Bool
-shareHolds {m} M n s T C = partsHold M n s C && ltb (size m (complement (bit T)) + n * worth M (bit T)) (n * (s + 1))
+-- and "(instruments outside T) + p × v(T)" is "below p × (s + 1)"
+unfoldable pub shareHolds : {m : ℕ} → Matroid m → (p s T : ℕ) → (C : ℕ → ℕ) → Bool
+shareHolds {m} M p s T C = partsHold M p s C && ltb (size m (complement (bit T)) + p * worth M (bit T)) (p * (s + 1))
 
--- the lowest team of which this does not hold
-unfoldable pub wrongShareAt : {m : ℕ} → (n : ℕ) → (ℕ → Matroid m) → List ℕ → ℕ
-wrongShareAt {m} n M sheet = lowestFailing n (λ t. shareHolds (M t) n (shareAt m sheet t) (setAt m sheet t) (partAt m sheet t))
+-- this of a team, with p the number of teams present: "15 does not test" a team that is away
+abbrev pub shareTest : {m : ℕ} → (n : ℕ) → (present : Set) → (ℕ → Matroid m) → List ℕ → ℕ → Bool
+shareTest {m} n present M sheet t = not (present t) || shareHolds (M t) (size n present) (shareAt m sheet t) (setAt m sheet t) (partAt m sheet t)
+
+-- the lowest team of which it does not hold
+unfoldable pub wrongShareAt : {m : ℕ} → (n : ℕ) → (present : Set) → (ℕ → Matroid m) → List ℕ → ℕ
+wrongShareAt n present M sheet = lowestFailing n (shareTest n present M sheet)
 
 -- 16: the lowest team that holds fewer instruments than its share
 unfoldable pub shortAt : (m n : ℕ) → List ℕ → ℕ

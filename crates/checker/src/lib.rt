@@ -2,6 +2,8 @@
 ghost use mathlib.Core.Path.{_≡_};
 ghost use Prim.Native.Nat.{_≤_};
 ghost use lib.ListN.{length};
+ghost use Rattle.sets.specs.Bits.{bit};
+ghost use Rattle.plan.specs.Teams.{present};
 ghost use Rattle.plan.specs.Valid.{Valid};
 ghost use Rattle.sheet.specs.Layout.{lengthOf};
 ghost use Rattle.checker.specs.declared.Verdict.{Verdict};
@@ -42,9 +44,9 @@ pub fn place(v: Verdict) -> usize
     }
 }
 
-// The rules about the division and the shares, 13 to 16, on a sheet of the right form.
-fn weigh(r: Reading, sheet: &[u8]) -> Verdict
-    requires { ⌜ Valid r × (lengthOf (r .m) (r .n) ≤ length (now sheet)) ⌝ }
+// The rules about the division and the shares, 13 to 16, on a sheet of the right form. The teams in `here` are present.
+fn weigh(r: Reading, here: u64, sheet: &[u8]) -> Verdict
+    requires { ⌜ Valid r × (lengthOf (r .m) (r .n) ≤ length (now sheet)) × (bit here ≡ present r) ⌝ }
     ensures { λ v. ⌜ v ≡ firstBroken Verdict.Accepted (divisionRules Verdict.Refused r (now (sheet .entry))) ⌝ }
 {
     let m = r.m;
@@ -64,7 +66,7 @@ fn weigh(r: Reading, sheet: &[u8]) -> Verdict
     if total != division::bound(valuations, m, n, sheet::word_at(sheet, end + 1)) {
         return Verdict::Refused(14, 0);
     }
-    let t = shares::first_wrong(valuations, m, n, sheet);
+    let t = shares::first_wrong(valuations, m, n, here, sheet);
     if t < n {
         return Verdict::Refused(15, t);
     }
@@ -87,11 +89,12 @@ fn judge(r: Reading, sheet: &[u8]) -> Verdict
     if sheet.len() != long {
         return Verdict::Refused(11, 0);
     }
-    let fault = sheet::form::first_fault(sheet, r.m, r.n);
+    let here = plan::present_of(r);
+    let fault = sheet::form::first_fault(sheet, r.m, r.n, here);
     if fault < long {
         return Verdict::Refused(12, fault);
     }
-    weigh(r, sheet)
+    weigh(r, here, sheet)
 }
 
 // Checks a sheet by a plan.

@@ -13,12 +13,13 @@ use Rattle.matroid.specs.Matroid.{Matroid, worth}
 use Rattle.matroid.specs.Share.{share}
 use Rattle.matroid.proofs.Rank.{worth-attained, worth-most}
 use Rattle.matroid.proofs.Shares.{share-attained, share-most}
+use Rattle.matroid.proofs.Present.{present-some}
 use Rattle.sets.specs.Bits.{bit}
 use Rattle.plan.specs.declared.Reading.{Reading}
 use Rattle.plan.specs.declared.Answer.{Answer}
 use Rattle.plan.specs.declared.Answer.the-variants as answer
 use Rattle.plan.specs.Read.{readPlan}
-use Rattle.plan.specs.Teams.{teamMatroid}
+use Rattle.plan.specs.Teams.{teamMatroid, present, presentCount}
 use Rattle.plan.proofs.Answers.{absent-worth}
 use Rattle.plan.specs.Worth.{answerOf, worthAnswer, worthNumber, worthPlace, worthValue, WorthTold}
 use Rattle.sheet.specs.Fields.{shareAt}
@@ -73,7 +74,7 @@ worth-case plan team set a e z = e ∙ go (ℕ-discrete (r .refusal) 0) ∙ ap (
 
 -- from Fair alone: the shares stated are maximin shares
 pub fair-shares : (r : Reading) (sheet : List ℕ) → FairBy r sheet → SharesBy r sheet
-fair-shares r sheet f t l = share-maximin (teamMatroid r t) (r .n) (shareAt (r .m) sheet t) (omega arith) (f .shares-true t l)
+fair-shares r sheet f t l here = share-maximin (teamMatroid r t) (presentCount r) (shareAt (r .m) sheet t) (present-some (r .n) (present r) t l here) (f .shares-true t l here)
 
 -- where no rule that is broken has the number 0, an answer of number 0 is the one of no broken rule
 none-broken : (rs : List (Rule Verdict)) → All (λ r. r .broken ≡ true → verdictNumber (r .answer) ≢ 0) rs → verdictNumber (firstBroken Accepted rs) ≡ 0 → Accepted ≡ firstBroken Accepted rs

@@ -15,21 +15,21 @@ use Rattle.matroid.specs.Division.{bundle}
 use Rattle.command.specs.Rule.{firstBroken}
 use Rattle.plan.specs.declared.Reading.{Reading}
 use Rattle.plan.specs.Read.{readPlan}
-use Rattle.plan.specs.Teams.{teamMatroid}
+use Rattle.plan.specs.Teams.{teamMatroid, present, presentCount}
 use Rattle.plan.proofs.Bounds.{bounded}
 use Rattle.plan.proofs.Numbers.{read-number}
 use Rattle.sheet.specs.Layout.{lengthOf}
-use Rattle.sheet.specs.Fields.{holderAt, shareAt, setAt, partAt}
+use Rattle.sheet.specs.Fields.{holderAt, shareAt, partAt}
 use Rattle.sheet.specs.Form.{form, firstFault}
 use Rattle.sheet.specs.Formed.{Formed}
 use Rattle.sheet.proofs.Forming.{passes-form, formed-passes}
 use Rattle.checker.specs.declared.Verdict.{Verdict}
-use Rattle.checker.specs.Rules.{independent, dependentAt, boundOf, totalHolds, partsHold, shareHolds, wrongShareAt, shortAt}
+use Rattle.checker.specs.Rules.{independent, dependentAt, boundOf, totalHolds, partsHold, shareHolds, shareTest, wrongShareAt, shortAt}
 use Rattle.checker.specs.Check.{divisionRules, sheetRules}
 use Rattle.checker.specs.Verdict.{verdictNumber, verdictPlace}
 use Rattle.checker.specs.Told.{CheckTold}
 use Rattle.checker.proofs.Lowest.{lowest-at, lowest-none, every-true}
-use Rattle.checker.proofs.Acceptance.{share-test, share-reached, share-limited, total-given, total-bound}
+use Rattle.checker.proofs.Acceptance.{share-test, share-reached, share-limited, total-given, total-bound, tested, passed}
 use Rattle.builder.specs.declared.Built.{Built}
 use Rattle.builder.specs.Build.{buildRules, builtNumber, builtPlace, builtLength, BuildTold, Answered}
 use Rattle.builder.specs.Build as build
@@ -104,17 +104,18 @@ module _ (r : Reading) (sheet : List ℕ) where
   total-false : (TotalHolds r sheet → ⊥) → totalHolds (r .n) (teamMatroid r) sheet ≡ false
   total-false d = fails _ (λ e. d (total-given r sheet e, total-bound r sheet e))
 
-  share-true : (t : ℕ) → ShareHolds r sheet t → share-test r sheet t ≡ true
-  unfolding share-test shareHolds partsHold
-  share-true t h =
+  share-true : (t : ℕ) → ShareHolds r sheet t → shareTest (r .n) (present r) (teamMatroid r) sheet t ≡ true
+  unfolding shareHolds partsHold
+  share-true t h = passed (present r t) _ (λ here.
       rw (
-        every-true (r .n) (λ p. leb (shareAt (r .m) sheet t) (worth (teamMatroid r t) (bundle (partAt (r .m) sheet t) p))) (λ p b. le-leb _ _ (h .0 p b)),
-        lt-ltb _ _ (h .1),
+        every-true (presentCount r) (λ k. leb (shareAt (r .m) sheet t) (worth (teamMatroid r t) (bundle (partAt (r .m) sheet t) k))) (λ k b. le-leb _ _ (h here .0 k b)),
+        lt-ltb _ _ (h here .1),
       )
-      refl
+      refl)
 
-  share-false : (t : ℕ) → (ShareHolds r sheet t → ⊥) → share-test r sheet t ≡ false
-  share-false t d = fails _ (λ e. d (share-reached r sheet t e, share-limited r sheet t e))
+  share-false : (t : ℕ) → (ShareHolds r sheet t → ⊥) → shareTest (r .n) (present r) (teamMatroid r) sheet t ≡ false
+  unfolding share-test
+  share-false t d = fails _ (λ e. d (λ here. let shown = tested (present r t) _ e here in (share-reached r sheet t shown, share-limited r sheet t shown)))
 
   enough-false : (t : ℕ) → (Enough r sheet t → ⊥) → leb (shareAt (r .m) sheet t) (size (r .m) (bundle (holderAt sheet) t)) ≡ false
   enough-false t d = fails _ (λ e. d (leb-true _ _ e))
@@ -129,13 +130,13 @@ module _ (r : Reading) (sheet : List ℕ) where
   unfolding dependentAt
   none-dependent h = lowest-none (r .n) (λ t. independent (teamMatroid r t) (bundle (holderAt sheet) t)) (λ t l. indep-true (teamMatroid r t) (bundle (holderAt sheet) t) (h t l))
 
-  lowest-wrong : (t : ℕ) → Lowest (r .n) (ShareHolds r sheet) t → t ≡ wrongShareAt (r .n) (teamMatroid r) sheet
-  unfolding wrongShareAt share-test
-  lowest-wrong t l = lowest-at (r .n) (λ t. shareHolds (teamMatroid r t) (r .n) (shareAt (r .m) sheet t) (setAt (r .m) sheet t) (partAt (r .m) sheet t)) t (l .below) (λ u b. share-true u (l .before u b)) (share-false t (l .fails))
+  lowest-wrong : (t : ℕ) → Lowest (r .n) (ShareHolds r sheet) t → t ≡ wrongShareAt (r .n) (present r) (teamMatroid r) sheet
+  unfolding wrongShareAt
+  lowest-wrong t l = lowest-at (r .n) (shareTest (r .n) (present r) (teamMatroid r) sheet) t (l .below) (λ u b. share-true u (l .before u b)) (share-false t (l .fails))
 
-  none-wrong : Every (r .n) (ShareHolds r sheet) → r .n ≡ wrongShareAt (r .n) (teamMatroid r) sheet
-  unfolding wrongShareAt share-test
-  none-wrong h = lowest-none (r .n) (λ t. shareHolds (teamMatroid r t) (r .n) (shareAt (r .m) sheet t) (setAt (r .m) sheet t) (partAt (r .m) sheet t)) (λ t l. share-true t (h t l))
+  none-wrong : Every (r .n) (ShareHolds r sheet) → r .n ≡ wrongShareAt (r .n) (present r) (teamMatroid r) sheet
+  unfolding wrongShareAt
+  none-wrong h = lowest-none (r .n) (shareTest (r .n) (present r) (teamMatroid r) sheet) (λ t l. share-true t (h t l))
 
   lowest-short : (t : ℕ) → Lowest (r .n) (Enough r sheet) t → t ≡ shortAt (r .m) (r .n) sheet
   unfolding shortAt
@@ -160,16 +161,16 @@ module _ (r : Reading) (sheet : List ℕ) where
       at-11 d = rw (eq-eqb (r .refusal) 0 z, ne-eqb (length sheet) (lengthOf (r .m) (r .n)) d) refl
 
       module _ (long : length sheet ≡ L r) where
-        at-12 : firstFault (form (r .m) (r .n)) sheet 0 < L r → answer ≡ refuse 12 (firstFault (form (r .m) (r .n)) sheet 0)
+        at-12 : firstFault (form (r .m) (r .n) (present r)) sheet 0 < L r → answer ≡ refuse 12 (firstFault (form (r .m) (r .n) (present r)) sheet 0)
         unfolding answer
-        at-12 l = rw (eq-eqb (r .refusal) 0 z, eq-eqb (length sheet) (lengthOf (r .m) (r .n)) long, lt-ltb (firstFault (form (r .m) (r .n)) sheet 0) (lengthOf (r .m) (r .n)) l) refl
+        at-12 l = rw (eq-eqb (r .refusal) 0 z, eq-eqb (length sheet) (lengthOf (r .m) (r .n)) long, lt-ltb (firstFault (form (r .m) (r .n) (present r)) sheet 0) (lengthOf (r .m) (r .n)) l) refl
 
-        module _ (formed : Formed (r .m) (r .n) sheet) where
+        module _ (formed : Formed (r .m) (r .n) (present r) sheet) where
           past-12 : answer ≡ firstBroken none (divisionRules refuse r sheet)
           unfolding answer
           past-12 =
-              let clear = passes-form sheet (r .m) (r .n) (formed-passes sheet (r .m) (r .n) formed) in
-              rw (eq-eqb (r .refusal) 0 z, eq-eqb (length sheet) (lengthOf (r .m) (r .n)) long, le-ltb (firstFault (form (r .m) (r .n)) sheet 0) (lengthOf (r .m) (r .n)) clear) refl
+              let clear = passes-form sheet (r .m) (r .n) (present r) (formed-passes sheet (r .m) (r .n) (present r) formed) in
+              rw (eq-eqb (r .refusal) 0 z, eq-eqb (length sheet) (lengthOf (r .m) (r .n)) long, le-ltb (firstFault (form (r .m) (r .n) (present r)) sheet 0) (lengthOf (r .m) (r .n)) clear) refl
 
           at-13 : (t : ℕ) → Lowest (r .n) (Independent r sheet) t → answer ≡ refuse 13 t
           at-13 t l = past-12 ∙ rw (← lowest-dependent t l, lt-ltb t (r .n) (l .below)) refl

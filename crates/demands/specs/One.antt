@@ -5,6 +5,7 @@ use Prim.Native.Nat.{ℕ, _+_, _*_, _≤_, _<_}
 use mathlib.Core.Path.{_≡_}
 use mathlib.Core.Logic.{_≢_}
 use mathlib.Core.List.{List}
+use lib.Dec.{T}
 use lib.ListN.{length}
 use Rattle.matroid.specs.Set.{complement, size}
 use Rattle.matroid.specs.Sum.{sum}
@@ -13,7 +14,7 @@ use Rattle.matroid.specs.Division.{bundle, held}
 use Rattle.sets.specs.Bits.{bit}
 use Rattle.plan.specs.declared.Reading.{Reading}
 use Rattle.plan.specs.Read.{readPlan}
-use Rattle.plan.specs.Teams.{teamMatroid}
+use Rattle.plan.specs.Teams.{teamMatroid, present, presentCount}
 use Rattle.sheet.specs.Layout.{lengthOf}
 use Rattle.sheet.specs.Fields.{totalAt, holderAt, boundAt, shareAt, setAt, partAt}
 use Rattle.sheet.specs.Form.{form, firstFault}
@@ -61,11 +62,13 @@ TotalHolds r sheet =
     (totalAt sheet ≡ size (r .m) (held (r .n) (holderAt sheet)))
     × (totalAt sheet ≡ size (r .m) (complement (bit (boundAt (r .m) sheet))) + sum (r .n) (λ t. worth (teamMatroid r t) (bit (boundAt (r .m) sheet))))
 
--- 15: none "of the n parts, an empty one included, is worth less than s", and "(instruments outside T) + n × v(T)" is "below n × (s + 1)"
+-- 15, with "p in place of n", of a team present: none "of the" p "parts, an empty one included, is worth less than s", and "(instruments
+-- outside T) +" p "× v(T)" is "below" p "× (s + 1)"
 abbrev pub ShareHolds : Reading → List ℕ → ℕ → Type 0
 ShareHolds r sheet t =
-    ((p : ℕ) → p < r .n → shareAt (r .m) sheet t ≤ worth (teamMatroid r t) (bundle (partAt (r .m) sheet t) p))
-    × (size (r .m) (complement (bit (setAt (r .m) sheet t))) + r .n * worth (teamMatroid r t) (bit (setAt (r .m) sheet t)) < r .n * (shareAt (r .m) sheet t + 1))
+    T (present r t)
+    → ((k : ℕ) → k < presentCount r → shareAt (r .m) sheet t ≤ worth (teamMatroid r t) (bundle (partAt (r .m) sheet t) k))
+    × (size (r .m) (complement (bit (setAt (r .m) sheet t))) + presentCount r * worth (teamMatroid r t) (bit (setAt (r .m) sheet t)) < presentCount r * (shareAt (r .m) sheet t + 1))
 
 -- 16: a team does not hold "fewer instruments than its share"
 abbrev pub Enough : Reading → List ℕ → ℕ → Type 0
@@ -78,19 +81,19 @@ pub record ChecksBy (r : Reading) (sheet : List ℕ) (number place : ℕ) : Type
   -- "A sheet not of L bytes is 11, place 0."
   pub rule-11 : r .refusal ≡ 0 → length sheet ≢ L r → (number ≡ 11) × (place ≡ 0)
   -- "The first byte that differs from what form, order or range allows is 12, place its offset"
-  pub rule-12 : r .refusal ≡ 0 → length sheet ≡ L r → firstFault (form (r .m) (r .n)) sheet 0 < L r → (number ≡ 12) × (place ≡ firstFault (form (r .m) (r .n)) sheet 0)
+  pub rule-12 : r .refusal ≡ 0 → length sheet ≡ L r → firstFault (form (r .m) (r .n) (present r)) sheet 0 < L r → (number ≡ 12) × (place ≡ firstFault (form (r .m) (r .n) (present r)) sheet 0)
   -- "A bundle not independent is 13, place the lowest such team."
-  pub rule-13 : r .refusal ≡ 0 → length sheet ≡ L r → Formed (r .m) (r .n) sheet → (t : ℕ) → Lowest (r .n) (Independent r sheet) t → (number ≡ 13) × (place ≡ t)
+  pub rule-13 : r .refusal ≡ 0 → length sheet ≡ L r → Formed (r .m) (r .n) (present r) sheet → (t : ℕ) → Lowest (r .n) (Independent r sheet) t → (number ≡ 13) × (place ≡ t)
   -- "14, place 0"
-  pub rule-14 : r .refusal ≡ 0 → length sheet ≡ L r → Formed (r .m) (r .n) sheet → Every (r .n) (Independent r sheet) → (TotalHolds r sheet → ⊥) → (number ≡ 14) × (place ≡ 0)
+  pub rule-14 : r .refusal ≡ 0 → length sheet ≡ L r → Formed (r .m) (r .n) (present r) sheet → Every (r .n) (Independent r sheet) → (TotalHolds r sheet → ⊥) → (number ≡ 14) × (place ≡ 0)
   -- "15, place the lowest such team"
-  pub rule-15 : r .refusal ≡ 0 → length sheet ≡ L r → Formed (r .m) (r .n) sheet → Every (r .n) (Independent r sheet) → TotalHolds r sheet
+  pub rule-15 : r .refusal ≡ 0 → length sheet ≡ L r → Formed (r .m) (r .n) (present r) sheet → Every (r .n) (Independent r sheet) → TotalHolds r sheet
       → (t : ℕ) → Lowest (r .n) (ShareHolds r sheet) t → (number ≡ 15) × (place ≡ t)
   -- "16, place the lowest"
-  pub rule-16 : r .refusal ≡ 0 → length sheet ≡ L r → Formed (r .m) (r .n) sheet → Every (r .n) (Independent r sheet) → TotalHolds r sheet → Every (r .n) (ShareHolds r sheet)
+  pub rule-16 : r .refusal ≡ 0 → length sheet ≡ L r → Formed (r .m) (r .n) (present r) sheet → Every (r .n) (Independent r sheet) → TotalHolds r sheet → Every (r .n) (ShareHolds r sheet)
       → (t : ℕ) → Lowest (r .n) (Enough r sheet) t → (number ≡ 16) × (place ≡ t)
   -- "Acceptance answers 0"
-  pub accepted : r .refusal ≡ 0 → length sheet ≡ L r → Formed (r .m) (r .n) sheet → Every (r .n) (Independent r sheet) → TotalHolds r sheet → Every (r .n) (ShareHolds r sheet)
+  pub accepted : r .refusal ≡ 0 → length sheet ≡ L r → Formed (r .m) (r .n) (present r) sheet → Every (r .n) (Independent r sheet) → TotalHolds r sheet → Every (r .n) (ShareHolds r sheet)
       → Every (r .n) (Enough r sheet) → (number ≡ 0) × (place ≡ 0)
 
 abbrev pub Checks : (plan sheet : List ℕ) → (number place : ℕ) → Type 0

@@ -1,10 +1,11 @@
 -- Demand 3: "For every plan read without refusal and every buffer long enough, the builder writes a sheet that the checker accepts. For ANY
 -- bytes that the checker accepts: the stated total is the division's, no division has a larger one, each stated share is that team's share, and
--- however a team cuts all instruments into as many parts as there are teams, some part is worth no more to it than what it holds."
+-- however a team cuts all instruments into as many parts as there are teams (note 2: present teams), some part is worth no more to it than what it holds."
 use Prim.Native.Nat.{ℕ, _≤_, _<_}
 use mathlib.Core.Path.{_≡_}
 use mathlib.Core.Logic.{_≢_}
 use mathlib.Core.List.{List}
+use lib.Dec.{T}
 use lib.ListN.{length, take, getD}
 use Rattle.matroid.specs.Matroid.{worth}
 use Rattle.matroid.specs.Division.{bundle, total}
@@ -13,7 +14,7 @@ use Rattle.matroid.specs.Share.{share}
 use Rattle.matroid.specs.Best.{best}
 use Rattle.plan.specs.declared.Reading.{Reading}
 use Rattle.plan.specs.Read.{readPlan}
-use Rattle.plan.specs.Teams.{teamMatroid}
+use Rattle.plan.specs.Teams.{teamMatroid, present, presentCount}
 use Rattle.sheet.specs.Fields.{totalAt, holderAt, shareAt}
 use Rattle.checker.specs.Stated.{Stated}
 use Rattle.demands.specs.One.{L}
@@ -26,11 +27,11 @@ pub record GoodBy (r : Reading) (sheet : List ℕ) : Type 0 where
   pub total-best : (D : ℕ → ℕ) → total (r .n) (teamMatroid r) D ≤ totalAt sheet
   -- so that it is the best total
   pub total-greatest : totalAt sheet ≡ best (r .n) (teamMatroid r)
-  -- "each stated share is that team's share"
-  pub shares-true : (t : ℕ) → t < r .n → shareAt (r .m) sheet t ≡ share (teamMatroid r t) (r .n)
-  -- "however a team cuts all instruments into as many parts as there are teams, some part is worth no more to it than what it holds"
-  pub cut-matched : (t : ℕ) → t < r .n → (C : ℕ → ℕ) → Cuts (r .m) (r .n) C
-      → (p : ℕ) × (p < r .n) × (worth (teamMatroid r t) (bundle C p) ≤ worth (teamMatroid r t) (bundle (holderAt sheet) t))
+  -- "each stated share is that team's share", among those present and for a team present
+  pub shares-true : (t : ℕ) → t < r .n → T (present r t) → shareAt (r .m) sheet t ≡ share (teamMatroid r t) (presentCount r)
+  -- "however a team cuts all instruments into as many parts as there are ... present teams, some part is worth no more to it than what it holds"
+  pub cut-matched : (t : ℕ) → t < r .n → T (present r t) → (C : ℕ → ℕ) → Cuts (r .m) (presentCount r) C
+      → (k : ℕ) × (k < presentCount r) × (worth (teamMatroid r t) (bundle C k) ≤ worth (teamMatroid r t) (bundle (holderAt sheet) t))
 
 abbrev pub Good : (plan sheet : List ℕ) → Type 0
 Good plan sheet = GoodBy (readPlan plan) sheet

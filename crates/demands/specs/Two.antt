@@ -3,6 +3,7 @@ use Prim.Native.Nat.{ℕ, _≤_, _<_}
 use mathlib.Core.Path.{_≡_}
 use mathlib.Core.Logic.{_↔_}
 use mathlib.Core.List.{List}
+use lib.Dec.{T}
 use Rattle.matroid.specs.Set.{Set, Within, size}
 use Rattle.matroid.specs.Matroid.{Matroid, worth}
 use Rattle.matroid.specs.Division.{bundle}
@@ -10,7 +11,7 @@ use Rattle.matroid.specs.Cuts.{Cuts}
 use Rattle.sets.specs.Bits.{bit}
 use Rattle.plan.specs.declared.Reading.{Reading}
 use Rattle.plan.specs.Read.{readPlan}
-use Rattle.plan.specs.Teams.{teamMatroid}
+use Rattle.plan.specs.Teams.{teamMatroid, present, presentCount}
 use Rattle.sheet.specs.Fields.{shareAt}
 use Rattle.checker.specs.Stated.{Stated}
 
@@ -40,9 +41,9 @@ pub record Values (plan : List ℕ) (team set : ℕ) (number place value : ℕ) 
   -- "to a team not in the plan every set is worth 0"
   pub absent : readPlan plan .n ≤ team → value ≡ 0
 
--- the share that an accepted sheet states of each team is its maximin share
+-- the share that an accepted sheet states of each team present is its maximin share among those present (document 02, note 2)
 abbrev pub SharesBy : Reading → List ℕ → Type 0
-SharesBy r sheet = (t : ℕ) → t < r .n → Maximin (teamMatroid r t) (r .n) (shareAt (r .m) sheet t)
+SharesBy r sheet = (t : ℕ) → t < r .n → T (present r t) → Maximin (teamMatroid r t) (presentCount r) (shareAt (r .m) sheet t)
 
 -- Check: a sheet is accepted if the rules 11 to 16 hold of it, and only then
 pub record Accepts (plan sheet : List ℕ) (number : ℕ) : Type 0 where

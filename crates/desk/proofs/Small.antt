@@ -10,20 +10,19 @@ use lib.ListN.{length}
 use borrow.Author.Tests.{ltb-true, eqb-true}
 use Rattle.matroid.specs.Search.{All}
 use Rattle.plan.specs.declared.Reading.{Reading}
-use Rattle.command.specs.Rule.{Rule, rule, firstBroken}
+use Rattle.command.specs.Rule.{Rule, firstBroken}
 use Rattle.plan.specs.Read.{readPlan}
 use Rattle.plan.proofs.Bounds.{bounded}
 use Rattle.plan.proofs.Numbers.{read-number}
 use Rattle.sheet.specs.Layout.{lengthOf}
 use Rattle.sheet.proofs.Sizes.{length-le}
-use Rattle.sheet.specs.Form.{form, firstFault}
 use Rattle.builder.specs.declared.Built.{Built}
 use Rattle.builder.specs.declared.Built.the-variants.{Refused, Wrote}
 use Rattle.builder.specs.Build.{answerBy, buildAnswer, builtNumber, builtPlace}
 use Rattle.checker.specs.declared.Verdict.{Verdict}
 use Rattle.checker.specs.declared.Verdict.the-variants as verdict
 use Rattle.checker.specs.Verdict.{verdictNumber, verdictPlace}
-use Rattle.checker.specs.Check.{divisionRules, verdictOf, checkSheet}
+use Rattle.checker.specs.Check.{formRules, verdictOf, checkSheet}
 use Rattle.listing.specs.Listing.{listingBy}
 use Rattle.listing.specs.Lent.{textAnswer}
 use Rattle.listing.specs.List.{answerBy as listAnswerBy, listAnswer}
@@ -51,13 +50,6 @@ built-small plan buffer = go (eqb (readPlan plan .refusal) 0) refl
 
 -- ---- Check's refusals
 
--- the rules after Read's
-abbrev tail-rules : Reading → List ℕ → List (Rule Verdict)
-tail-rules r sheet =
-    rule (not (eqb (length sheet) (lengthOf (r .m) (r .n)))) (verdict.Refused 11 0)
-    ∷ rule (ltb (firstFault (form (r .m) (r .n)) sheet 0) (lengthOf (r .m) (r .n))) (verdict.Refused 12 (firstFault (form (r .m) (r .n)) sheet 0))
-    ∷ divisionRules verdict.Refused r sheet
-
 -- a broken rule has a small number and place
 abbrev SmallRule : Rule Verdict → Type 0
 SmallRule x = x .broken ≡ true → (verdictNumber (x .answer) ≤ 16) × (verdictPlace (x .answer) < 65536)
@@ -79,14 +71,14 @@ verdict-small plan sheet = go (eqb (readPlan plan .refusal) 0) refl
     r = readPlan plan
 
     go : (b : Bool) → eqb (r .refusal) 0 ≡ b
-        → (verdictNumber (cond (not b) (verdict.Refused (r .refusal) (r .place)) (firstBroken verdict.Accepted (tail-rules r sheet))) ≤ 16)
-        × (verdictPlace (cond (not b) (verdict.Refused (r .refusal) (r .place)) (firstBroken verdict.Accepted (tail-rules r sheet))) < 65536)
+        → (verdictNumber (cond (not b) (verdict.Refused (r .refusal) (r .place)) (firstBroken verdict.Accepted (formRules verdict.Refused r sheet))) ≤ 16)
+        × (verdictPlace (cond (not b) (verdict.Refused (r .refusal) (r .place)) (firstBroken verdict.Accepted (formRules verdict.Refused r sheet))) < 65536)
     go false e = (let l = read-number plan in omega arith, let l = bounded plan .place in omega arith)
     go true e =
         let v = bounded plan .valid (eqb-true (r .refusal) 0 e) in
         let l = length-le (r .m) (r .n) (v .small) (v .few) in
         let few = v .few in
-        rules-small (tail-rules r sheet) (
+        rules-small (formRules verdict.Refused r sheet) (
           λ _. (omega arith, omega arith),
           (
             λ b. (omega arith, lt-of-lt-of-le (ltb-true _ _ b) (omega arith)),

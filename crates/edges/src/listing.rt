@@ -54,9 +54,14 @@ fn verdict(v: Verdict) {
     }
 }
 
+// Shows what Check answers to a sheet by a plan.
+pub fn judge(plan: &[u8], sheet: &[u8]) {
+    verdict(checker::check(plan, sheet));
+}
+
 // Shows a sheet, and what Check answers to it by a plan.
 pub fn show(plan: &[u8], sheet: &[u8]) {
     fields(sheet);
     print::text(b"; ");
-    verdict(checker::check(plan, sheet));
+    judge(plan, sheet);
 }

@@ -4,6 +4,7 @@ use libc::STDIN_FILENO;
 use lines::print;
 
 mod building;
+mod changing;
 mod giving;
 mod listing;
 mod naming;
@@ -30,6 +31,10 @@ fn perform(line: &[u8]) {
     }
     if lines::same(verb, b"give") {
         giving::answer(operands);
+        return;
+    }
+    if lines::same(verb, b"byte") {
+        changing::answer(operands);
         return;
     }
     if lines::same(verb, b"room") {

@@ -1,5 +1,5 @@
 -- The loop of `level`.
-use Prim.Native.Nat.{ℕ, _+_, _-_, _*_, _≤_, _<_}
+use Prim.Native.Nat.{ℕ, _+_, _-_, _≤_, _<_}
 use mathlib.Core.Path.{_≡_, refl, ap, _∙_, subst, subst⁻¹, fun-ext}
 use mathlib.Core.Bool.{Bool, true, false, _&&_, _||_, not}
 use mathlib.Core.Logic.{inl, inr}
@@ -8,14 +8,14 @@ use native.Mathlib.Omega.{arith}
 use native.Mathlib.Decide.{decLt, ℕ-discrete}
 use lib.Dec.{T, eqb, eqb→eq, ltb, ltb→lt, lt→ltb, T-not}
 use lib.ListN.{getD}
-use Rattle.matroid.specs.Taut.{both, and-left, and-right, or-cases, follows₂}
-use Rattle.matroid.specs.Set.{Set, _∪_, _∖_, complement, only, size}
+use Rattle.matroid.specs.Taut.{decide-T, both, and-left, and-right, or-cases, follows₂}
+use Rattle.matroid.specs.Set.{Set, _∪_, _∖_, only, size}
 use Rattle.matroid.specs.SetLaws.{one-eq, one-ne, eq→eqb}
 use Rattle.matroid.specs.Sum.{sum}
-use Rattle.matroid.specs.Matroid.{worth}
 use Rattle.matroid.specs.Division.{bundle}
 use Rattle.matroid.proofs.Sums.{sum-lt}
-use Rattle.matroid.proofs.Certificates.{slack-held, slack-gain, slack-edge, levelling}
+use Rattle.matroid.proofs.Certificates.{slack-held, slack-gain, slack-edge}
+use Rattle.matroid.proofs.Present.{levelling-present}
 use Rattle.sets.specs.Bits.{bit}
 use Rattle.sets.proofs.Below.{none-there, size-under}
 use Rattle.holding.specs.declared.Holding.{Holding}
@@ -24,7 +24,7 @@ use Rattle.exchange.specs.declared.search.Reached.{Reached}
 use Rattle.exchange.specs.Agents.{agentMatroid, holder, Ready, Held}
 use Rattle.exchange.specs.Search.{Outcome}
 use Rattle.engine.specs.Fill.{given}
-use Rattle.engine.specs.Level.{wordSize, FirstShort, Above, Levelled}
+use Rattle.engine.specs.Level.{wordSize, FirstShort, Above, Levellable, Levelled}
 use Rattle.exchange.proofs.Advance.{Advanced}
 use Rattle.engine.proofs.Sizes.{size-after, given-same}
 
@@ -116,23 +116,29 @@ module _ (s : Agents) (h : Holding) (held : Held s h) (bundles targets : List �
         absurd (T-not (bit rich g) clear (is-rich .at g .1 (D g, known, (omega arith, subst⁻¹ T (ready .words .at (D g) (omega arith) g) (both (ltb g (s .m)) _ (lt→ltb g (s .m) l) (eq→eqb (D g) (D g) refl))))))
   ]
 
+  -- an agent that is short has a target, so it is present
+  short-present : (present : Set) → ((t : ℕ) → t < s .n → T (not (present t)) → getD targets t 0 ≡ 0) → T (present i)
+  short-present present none = elim (decide-T (present i)) [ inl here ↦ here | inr away ↦ let zero = none i li away in absurd (omega arith) ]
+
   -- where the total is greatest a chain is found
-  pub level-stuck : (k : ℕ) → given s (h .owner) ≡ size (s .m) (complement (bit k)) + sum (s .n) (λ t. worth (agentMatroid s t) (bit k))
-      → ((t : ℕ) → t < s .n → (R : Set) → s .n * getD targets t 0 ≤ size (s .m) R + s .n * worth (agentMatroid s t) (complement R)) → r .found ≡ false → ⊥
+  pub level-stuck : (start : Holding) → Levellable s start targets → given s (h .owner) ≡ given s (start .owner) → r .found ≡ false → ⊥
   unfolding given
-  level-stuck k full allowed none =
-      levelling (s .n) (agentMatroid s) D R (held .sound)
+  level-stuck start able same none =
+      let present = able .present in
+      let k = able .bound in
+      let full = same ∙ able .full .full in
+      levelling-present (s .n) (agentMatroid s) present (size (s .n) present) refl (able .away .idle) D R (held .sound)
       (λ g x lg lx t e. both (S x) _ (out .closed none g x lg lx (and-left (S g) _ t) e) (slack-edge (s .n) (agentMatroid s) D (bit k) (held .sound) full g x lg lx (and-right (S g) _ t) e))
-      (λ t. getD targets t 0) (λ t l. allowed t l R)
+      (λ t. getD targets t 0) (λ t l here. able .allowed t l here R)
       (λ g l t. let known = slack-held (s .n) (agentMatroid s) D (bit k) (held .sound) full g l (and-right (S g) _ t) in (known, poor-agent g l known (out .clear none g (and-left (S g) _ t))))
-      i li is-short
+      i li (short-present present (able .none)) is-short
       (λ g l c. both (S g) _ (out .gains none i li source-only g l c) (slack-gain (s .n) (agentMatroid s) D (bit k) (held .sound) full i g li l c))
     where
       S : Set
       S = bit (r .trace .seen)
 
       R : Set
-      R = S ∖ bit k
+      R = S ∖ bit (able .bound)
 
   module _ (found : r .found ≡ true) (after : Holding) (a : Advanced s h only-i (r .end) after) where
     -- the chain is from agent i to an agent above its target

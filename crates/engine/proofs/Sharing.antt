@@ -1,7 +1,7 @@
 -- Shares: what shows one, and how n agents of one valuation, filled and levelled, come to it.
 use Prim.Native.Nat.{ℕ, _+_, _*_, _/_, _≤_, _<_}
 use mathlib.Core.Path.{_≡_, refl, sym, ap, ap₂, _∙_, subst, fun-ext}
-use mathlib.Core.Bool.{Bool, _&&_, not, and-true, and-false, Bool·not-not}
+use mathlib.Core.Bool.{Bool, true, _&&_, not, and-true, and-false, Bool·not-not}
 use mathlib.Core.List.{List}
 use native.Mathlib.Omega.{arith}
 use native.Mathlib.Nat.{mul-le-mul-left, div-add-mod', mod-lt}
@@ -11,7 +11,7 @@ use lib.ListN.{length, getD, set, replicate, length-set, getD-replicate, List·g
 use lib.Seq.{getD-set-same, getD-set-other}
 use borrow.Author.Tests.{lt-ltb, le-ltb}
 use Rattle.matroid.specs.Set.{Set, _∖_, complement, under, size, Within}
-use Rattle.matroid.specs.SetLaws.{eq→eqb}
+use Rattle.matroid.specs.SetLaws.{eq→eqb, size-all}
 use Rattle.matroid.specs.Sum.{sum}
 use Rattle.matroid.specs.Matroid.{Matroid, worth}
 use Rattle.matroid.specs.Division.{bundle}
@@ -149,18 +149,21 @@ module _ (m n : ℕ) (v : Valuation) (small : m ≤ 64) (some : 1 ≤ n) (few : 
       let sizes = sum-same n (λ t. worth (agentMatroid agentsOf t) (bundle (holder (h .owner)) t)) (λ t. size m (bundle (holder (h .owner)) t)) (λ t l. worth-indep (agentMatroid agentsOf t) (bundle (holder (h .owner)) t) (hd .sound t l)) in
       omega arith
 
-  -- the quotient of what is given can be every agent's target
+  -- the quotient of what is given can be every agent's target, and all are present
   pub share-levellable : (h : Holding) (k s : ℕ) (targets : List ℕ) → Full agentsOf h k → s ≡ given agentsOf (h .owner) / n → targets ≡ replicate 12 s → Levellable agentsOf h targets
   share-levellable h k s targets f e is = record {
     bound = k;
     full = f;
-    allowed = λ t l R.
+    present = λ _. true;
+    away = record { idle = λ t l away. absurd away };
+    none = λ t l away. absurd away;
+    allowed = λ t l _ R.
         let bound = given-bound h R (f .held) in
         let div = div-add-mod' (given agentsOf (h .owner)) n in
         let target : getD targets t 0 ≡ s = ap (λ (x : List ℕ). getD x t 0) is ∙ getD-replicate 12 t s 0 (omega arith) in
         let times = ap (λ (x : ℕ). n * x) (target ∙ e) in
         let same = ap (λ (X : Matroid m). n * worth X (complement R)) (alike m n v t l few) in
-        omega arith;
+        rw (size-all n (λ _. true) (λ _ _. tt)) (omega arith);
   }
 
   -- the agents are levelled to it, and their bundles cut into parts

@@ -1,9 +1,11 @@
 -- What dividing comes to.
 use Prim.Native.Nat.{ℕ, _≤_, _<_}
 use mathlib.Core.Path.{_≡_}
+use mathlib.Core.Bool.{not}
 use mathlib.Core.List.{List, []}
-use lib.ListN.{length, getD}
-use Rattle.matroid.specs.Set.{size}
+use lib.Dec.{T}
+use lib.ListN.{length, getD, replicate}
+use Rattle.matroid.specs.Set.{Set, size}
 use Rattle.matroid.specs.Division.{bundle}
 use Rattle.kinds.specs.Valuations.{blankValuation}
 use Rattle.exchange.specs.declared.Agents.{Agents}
@@ -17,10 +19,15 @@ use Rattle.engine.specs.Share.{ShareOf}
 abbrev pub noShare : Shared
 noShare = record { share = 0; bound = 0; part = [] }
 
--- the shares of the agents below k
-pub record AllShares (s : Agents) (k : ℕ) (r : List Shared) : Type 0 where
+-- what is written of an agent that is away
+abbrev pub nothing : Shared
+nothing = record { share = 0; bound = 0; part = replicate 64 0 }
+
+-- The shares of the agents below k: of one that is present its share among those present, and nothing of one that is away.
+pub record AllShares (s : Agents) (present : Set) (k : ℕ) (r : List Shared) : Type 0 where
   pub long : length r ≡ 12
-  pub at : (t : ℕ) → t < k → ShareOf (s .m) (s .n) (getD (s .valuations) t blankValuation) (getD r t noShare)
+  pub at : (t : ℕ) → t < k → T (present t) → ShareOf (s .m) (size (s .n) present) (getD (s .valuations) t blankValuation) (getD r t noShare)
+  pub away : (t : ℕ) → t < k → T (not (present t)) → getD r t noShare ≡ nothing
 
 -- the shares below k as numbers
 pub record Targets (shares : List Shared) (k : ℕ) (r : List ℕ) : Type 0 where
@@ -28,7 +35,7 @@ pub record Targets (shares : List Shared) (k : ℕ) (r : List ℕ) : Type 0 wher
   pub at : (t : ℕ) → t < k → getD r t 0 ≡ getD shares t noShare .share
 
 -- every bundle is independent, the total is greatest by the bound, each share is the agent's share, and no agent holds less
-pub record Divided (s : Agents) (r : Division) : Type 0 where
+pub record Divided (s : Agents) (present : Set) (r : Division) : Type 0 where
   pub full : Full s (r .holding) (r .bound)
-  pub shares : AllShares s (s .n) (r .shares)
+  pub shares : AllShares s present (s .n) (r .shares)
   pub reached : (t : ℕ) → t < s .n → getD (r .shares) t noShare .share ≤ size (s .m) (bundle (holder (r .holding .owner)) t)

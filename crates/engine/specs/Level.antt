@@ -1,6 +1,7 @@
 -- What levelling comes to.
 use Prim.Native.Nat.{ℕ, _+_, _*_, _≤_, _<_}
 use mathlib.Core.Path.{_≡_}
+use mathlib.Core.Bool.{not}
 use mathlib.Core.Logic.{_↔_}
 use mathlib.Core.List.{List}
 use lib.Dec.{T}
@@ -28,11 +29,19 @@ pub record FirstShort (bundles targets : List ℕ) (n r : ℕ) : Type 0 where
 pub record Above (bundles targets : List ℕ) (n r : ℕ) : Type 0 where
   pub at : (j : ℕ) → T (bit r j) ↔ ((t : ℕ) × (t < n) × ((getD targets t 0 < wordSize bundles t) × T (bit (getD bundles t 0) j)))
 
--- A holding of greatest total, and targets that every set allows: n × target is at most (members of R) + n × v(outside R).
+-- to an agent that is away every set is worth nothing
+pub record Away (s : Agents) (present : Set) : Type 0 where
+  pub idle : (t : ℕ) → t < s .n → T (not (present t)) → (S : Set) → worth (agentMatroid s t) S ≡ 0
+
+-- A holding of greatest total, and targets that every set allows: with p agents present, p × target is at most (members of R) + p × v(outside R).
+-- An agent that is away has no target.
 pub record Levellable (s : Agents) (h : Holding) (targets : List ℕ) : Type 0 where
   pub bound : ℕ
   pub full : Full s h bound
-  pub allowed : (t : ℕ) → t < s .n → (R : Set) → s .n * getD targets t 0 ≤ size (s .m) R + s .n * worth (agentMatroid s t) (complement R)
+  pub present : Set
+  pub away : Away s present
+  pub none : (t : ℕ) → t < s .n → T (not (present t)) → getD targets t 0 ≡ 0
+  pub allowed : (t : ℕ) → t < s .n → T (present t) → (R : Set) → size (s .n) present * getD targets t 0 ≤ size (s .m) R + size (s .n) present * worth (agentMatroid s t) (complement R)
 
 -- every bundle is independent, as many are given as before, and every agent has its target
 pub record Levelled (s : Agents) (before : Holding) (targets : List ℕ) (h : Holding) : Type 0 where

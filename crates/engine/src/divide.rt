@@ -1,6 +1,8 @@
 // Divide: a division of greatest total in which every agent has at least its share.
 ghost use Prim.Native.Nat.{_≤_};
+ghost use Rattle.sets.specs.Bits.{bit};
 ghost use Rattle.engine.specs.Fill.{ValidAgents};
+ghost use Rattle.engine.specs.Level.{Away};
 ghost use Rattle.engine.specs.Divide.{AllShares, Targets, Divided};
 use super::fill::fill;
 use super::level::level;
@@ -16,13 +18,14 @@ pub struct Division {
     pub shares: [Shared; 12],
 }
 
-// The share of each agent.
-fn all_shares(s: Agents) -> [Shared; 12]
+// The share of each agent that is present, among those present.
+fn all_shares(s: Agents, here: u64) -> [Shared; 12]
     requires { ⌜ ValidAgents s ⌝ }
-    ensures { λ r. ⌜ AllShares s (s .n) r ⌝ }
+    ensures { λ r. ⌜ AllShares s (bit here) (s .n) r ⌝ }
 {
     let m = s.m;
     let n = s.n;
+    let p = sets::size_below(n, here);
     let valuations = s.valuations;
     let none = Shared {
         share: 0,
@@ -31,9 +34,11 @@ fn all_shares(s: Agents) -> [Shared; 12]
     };
     let mut shares = [none; 12];
     for t in 0..n {
-        let v = valuations[t];
-        let one = share_of(v, m, n);
-        shares[t] = one;
+        if sets::member(here, t) {
+            let v = valuations[t];
+            let one = share_of(v, m, p);
+            shares[t] = one;
+        }
     }
     shares
 }
@@ -51,12 +56,13 @@ fn targets_of(shares: [Shared; 12], n: usize) -> [u8; 12]
     targets
 }
 
-// The division. Every agent is offered its share first, so that few are short when the total is greatest.
-pub fn divide(s: Agents) -> Division
-    requires { ⌜ ValidAgents s ⌝ }
-    ensures { λ r. ⌜ Divided s r ⌝ }
+// The division among agents of which those in `here` are present. Every agent is offered its share first, so that few are short when the total
+// is greatest.
+pub fn divide(s: Agents, here: u64) -> Division
+    requires { ⌜ ValidAgents s × Away s (bit here) ⌝ }
+    ensures { λ r. ⌜ Divided s (bit here) r ⌝ }
 {
-    let shares = all_shares(s);
+    let shares = all_shares(s, here);
     let targets = targets_of(shares, s.n);
     let f = fill(s, targets);
     let start = f.holding;

@@ -65,7 +65,12 @@ fn plan_of(file: &[u8]) {
     let m = r.m;
     let n = r.n;
     let valuations = plan::valuations_of(r);
-    show(engine::divide::divide(Agents { m, n, valuations }), m, n);
+    let here = plan::present_of(r);
+    show(
+        engine::divide::divide(Agents { m, n, valuations }, here),
+        m,
+        n,
+    );
 }
 
 // Answers the verb.

@@ -1,26 +1,22 @@
--- What a set closed under exchange certifies: that a division is best, that none of it is loose, that no team can be short.
-use Prim.Native.Nat.{ℕ, _+_, _*_, _≤_, _<_}
-use mathlib.Core.Path.{_≡_, sym, ap, subst, subst⁻¹}
+-- What a set closed under exchange certifies: that a division is best, and that none of it is loose.
+use Prim.Native.Nat.{ℕ, _+_, _≤_, _<_}
+use mathlib.Core.Path.{_≡_, sym, subst, subst⁻¹}
 use mathlib.Core.Bool.{_&&_, not}
 use native.Mathlib.Omega.{arith}
-use native.Mathlib.Nat.{mul-le-mul-left}
-use native.Mathlib.Decide.{decLt}
 use lib.Dec.{T, eqb→eq, T-not, not-T, ltb→lt}
 use Rattle.matroid.specs.Taut.{both, follows₂}
 use Rattle.matroid.specs.Set.{Set, _∩_, _∖_, complement, with, size, Within}
-use Rattle.matroid.specs.SetLaws.{within-trans, inter-left, inter-right, with-least, without-old, size-split, size-with, size-some, size-full}
+use Rattle.matroid.specs.SetLaws.{within-trans, inter-left, inter-right, with-least, without-old, size-with, size-full}
 use Rattle.matroid.specs.Sum.{sum}
 use Rattle.matroid.specs.Matroid.{Matroid, worth}
 use Rattle.matroid.specs.Division.{bundle, held, total}
 use Rattle.matroid.specs.DivisionLaws.{sum-bundles}
-use Rattle.matroid.specs.Share.{share}
 use Rattle.matroid.specs.Exchange.{Fits, Swaps, CanGain, Sound, CanSwap, Edge}
 use Rattle.matroid.specs.Closure.{Closed, GainsWithin}
 use Rattle.matroid.proofs.Sets.{within-out, with-mono, without-other, size-twice}
-use Rattle.matroid.proofs.Sums.{sum-le, sum-same, sum-const, sum-mul, sum-tight, sum-lt}
+use Rattle.matroid.proofs.Sums.{sum-le, sum-same, sum-tight}
 use Rattle.matroid.proofs.Rank.{worth-most, worth-indep, maximal-is-worth}
 use Rattle.matroid.proofs.Duality.{sum-bundles-le, sum-bundles-all, sum-bundles-split, weak-duality}
-use Rattle.matroid.proofs.Shares.{share-allowed}
 use Rattle.matroid.proofs.Swapping.{circuit}
 
 -- A is independent. Whatever A can gain is in R, and so is whatever can take the place of a member in R.
@@ -122,58 +118,3 @@ module _ {m : ℕ} (n : ℕ) (M : ℕ → Matroid m) where
     slack-edge g h lg lh out e =
         let A = bundle D (D g) in
         no-room (D g) h (e .0) lh (e .1 .0) (M (D g) .part (with-mono h (without-other g (inter-left A K) (within-out (inter-right A K) g lg out))) (e .1 .1))
-
-  -- All bundles are independent, R is closed and allows the targets τ, and whoever holds a member of R is a team at most at its target.
-  module _ (D : ℕ → ℕ) (R : Set) (sound : Sound n M D) (closed : Closed n M D R) (τ : ℕ → ℕ)
-      (allowed : (t : ℕ) → t < n → n * τ t ≤ size m R + n * worth (M t) (complement R))
-      (kept : (g : ℕ) → g < m → T (R g) → (D g < n) × (size m (bundle D (D g)) ≤ τ (D g))) where
-    -- n times a number up to the target is at most R and n times what the team has outside R
-    level-le : (t c : ℕ) → t < n → c ≤ τ t → worth (M t) (complement R) ≡ size m (bundle D t ∖ R) → n * c ≤ size m R + n * size m (bundle D t ∖ R)
-    level-le t c l b e =
-        let target = mul-le-mul-left n b in
-        let most = allowed t l in
-        let outside = ap (λ (x : ℕ). n * x) e in
-        omega arith
-
-    -- n times a bundle is n times its part in R and n times the rest
-    level-split : (t : ℕ) → n * size m (bundle D t) ≡ n * size m (bundle D t ∩ R) + n * size m (bundle D t ∖ R)
-    level-split t = let split = ap (λ (x : ℕ). n * x) (size-split m (bundle D t) R) in omega arith
-
-    -- no team has more than its part of R
-    level-each : (t : ℕ) → t < n → n * size m (bundle D t ∩ R) ≤ size m R
-    level-each t l = go (decLt 0 (size m (bundle D t ∩ R)))
-      where
-        go : Dec (0 < size m (bundle D t ∩ R)) → n * size m (bundle D t ∩ R) ≤ size m R
-        go (yes p) =
-            let x = size-some m (bundle D t ∩ R) p in
-            let b = inter-left (bundle D t) R .at (x .at) (x .below) (x .there) in
-            let r = inter-right (bundle D t) R .at (x .at) (x .below) (x .there) in
-            let top = subst (λ (u : ℕ). size m (bundle D u) ≤ τ u) (eqb→eq (D (x .at)) t b) (kept (x .at) (x .below) r .1) in
-            let most = level-le t (size m (bundle D t)) l top (meets-tight D R sound closed t (x .at) l (x .below) b r) in
-            let split = level-split t in
-            omega arith
-        go (no d) =
-            let none : size m (bundle D t ∩ R) ≡ 0 = omega arith in
-            let times = ap (λ (x : ℕ). n * x) none in
-            omega arith
-
-    -- and a team that is short has less
-    level-short : (i : ℕ) → i < n → size m (bundle D i) < τ i → GainsWithin n M D R i → n * size m (bundle D i ∩ R) < size m R
-    level-short i l short gains =
-        let most = level-le i (size m (bundle D i) + 1) l (omega arith) (bundle-tight D R sound closed i l gains) in
-        let split = level-split i in
-        omega arith
-
-    -- so no team is short whose gains all lie in R
-    pub levelling : (i : ℕ) → i < n → size m (bundle D i) < τ i → GainsWithin n M D R i → ⊥
-    levelling i l short gains =
-        let less = sum-lt n (λ t. n * size m (bundle D t ∩ R)) (λ t. size m R) level-each i l (level-short i l short gains) in
-        let whole = sum-const n (size m R) in
-        let times = sum-mul n n (λ t. size m (bundle D t ∩ R)) in
-        let all = ap (λ (x : ℕ). n * x) (sum-bundles-all m n D R (λ g b r. kept g b r .0)) in
-        omega arith
-
-  -- the same where each team's target is its share
-  pub levelling-share : (D : ℕ → ℕ) (R : Set) → Sound n M D → Closed n M D R → ((g : ℕ) → g < m → T (R g) → (D g < n) × (size m (bundle D (D g)) ≤ share (M (D g)) n))
-      → (i : ℕ) → i < n → size m (bundle D i) < share (M i) n → GainsWithin n M D R i → ⊥
-  levelling-share D R sound closed kept i l = levelling D R sound closed (λ t. share (M t) n) (λ t _. share-allowed (M t) n (omega arith) R) kept i l

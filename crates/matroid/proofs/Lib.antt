@@ -13,6 +13,7 @@ pub mod Carrying
 pub mod Chains
 pub mod Shortest
 pub mod Certificates
+pub mod Present
 pub mod Waves
 pub mod Walk
 pub mod Example

@@ -4,6 +4,7 @@ use mathlib.Core.Path.{_≡_, refl, sym, ap}
 use native.Mathlib.Omega.{arith}
 use native.Mathlib.Nat.{zero-mul, mul-zero}
 use native.Mathlib.Decide.{ℕ-discrete, decLt}
+use Rattle.matroid.specs.Set.{Set, one, size}
 use Rattle.matroid.specs.Sum.{sum}
 
 -- larger terms have the larger sum, and equal terms the same
@@ -33,6 +34,11 @@ sum-const (suc n) c = let below = sum-const n c in omega arith
 pub sum-mul : (n c : ℕ) (f : ℕ → ℕ) → sum n (λ t. c * f t) ≡ c * sum n f
 sum-mul zero c f = sym (mul-zero c)
 sum-mul (suc n) c f = let below = sum-mul n c f in omega arith
+
+-- a set's size is a sum of ones
+pub sum-size : (n : ℕ) (A : Set) → sum n (λ t. one (A t)) ≡ size n A
+sum-size zero A = refl
+sum-size (suc n) A = let below = sum-size n A in omega arith
 
 -- where no term is larger and the sum is no smaller, the terms are equal
 pub sum-tight : (n : ℕ) (f g : ℕ → ℕ) → ((t : ℕ) → t < n → f t ≤ g t) → sum n g ≤ sum n f → (t : ℕ) → t < n → f t ≡ g t

@@ -8,6 +8,7 @@ pub mod Kept
 pub mod Steps
 pub mod Bounds
 pub mod Valuing
+pub mod Present
 pub mod Answers
 pub mod Numbers
 pub mod Longest

@@ -34,7 +34,7 @@ use Rattle.command.specs.Command.{commandAt}
 use Rattle.command.specs.Fault.{fault}
 use Rattle.command.specs.Carry.{changedTeam, changedState}
 use Rattle.plan.specs.Read.{readFrom, readPlan}
-use Rattle.plan.specs.Teams.{allBelow, teamMatroid}
+use Rattle.plan.specs.Teams.{allBelow, teamMatroid, present, presentCount}
 
 -- ---- from a team's valuation to its tables
 
@@ -79,9 +79,9 @@ own-worth r t = fun-ext (λ S. go (ltb t (r .n)) S)
 abbrev pub worthIn : List ℕ → ℕ → ℕ → ℕ
 worthIn file team set = worth (teamMatroid (readPlan file) team) (bit set)
 
--- a team's share, and the best total
+-- a team's share among those present, and the best total
 abbrev shareIn : List ℕ → ℕ → ℕ
-shareIn file team = share (teamMatroid (readPlan file) team) (readPlan file .n)
+shareIn file team = share (teamMatroid (readPlan file) team) (presentCount (readPlan file))
 
 abbrev bestIn : List ℕ → ℕ
 bestIn file = best (readPlan file .n) (teamMatroid (readPlan file))
@@ -90,11 +90,11 @@ bestIn file = best (readPlan file .n) (teamMatroid (readPlan file))
 worth-by : (file : List ℕ) (team set w : ℕ) → worth (ownMatroid (readPlan file) team) (bit set) ≡ w → worthIn file team set ≡ w
 worth-by file team set w e = ap (λ (v : Set → ℕ). v (bit set)) (own-worth (readPlan file) team) ∙ e
 
-share-by : (file : List ℕ) (team w : ℕ) → share (ownMatroid (readPlan file) team) (readPlan file .n) ≡ w → shareIn file team ≡ w
+share-by : (file : List ℕ) (team w : ℕ) → share (ownMatroid (readPlan file) team) (presentCount (readPlan file)) ≡ w → shareIn file team ≡ w
 unfolding share
 share-by file team w e =
     let r = readPlan file in
-    ap (λ (v : Set → ℕ). largest (λ C. least (r .n) (λ t. v (bundle C t))) (cuts (r .m) (r .n))) (own-worth r team) ∙ e
+    ap (λ (v : Set → ℕ). largest (λ C. least (presentCount r) (λ t. v (bundle C t))) (cuts (r .m) (presentCount r))) (own-worth r team) ∙ e
 
 total-by : (file : List ℕ) (D : ℕ → ℕ) → total (readPlan file .n) (teamMatroid (readPlan file)) D ≡ total (readPlan file .n) (ownMatroid (readPlan file)) D
 total-by file D =
@@ -224,6 +224,22 @@ trap-both : worthIn trap 0 12 ≡ 1
 unfolding worth bit readPlan readFrom commandAt fault changedTeam changedState decLe partition
 trap-both = worth-by trap 0 12 1 refl
 
+-- a team that takes both instruments, and one that is away: its share is 2, where among two it would be 1
+abbrev leave : List ℕ
+leave = 1 ∷ 1 ∷ 2 ∷ 2 ∷ 2 ∷ 4 ∷ 0 ∷ 2 ∷ 5 ∷ 0 ∷ 0 ∷ 5 ∷ 1 ∷ 0 ∷ 2 ∷ 0 ∷ 7 ∷ []
+
+leave-share : shareIn leave 0 ≡ 2
+unfolding worth bit readPlan readFrom commandAt fault changedTeam changedState decLe partition share
+leave-share = share-by leave 0 2 refl
+
+-- a team with channels is present, though it has named no instrument and every set is worth 0 to it
+abbrev worthless : List ℕ
+worthless = 1 ∷ 1 ∷ 2 ∷ 2 ∷ 2 ∷ 4 ∷ 0 ∷ 2 ∷ 5 ∷ 0 ∷ 0 ∷ 5 ∷ 1 ∷ 0 ∷ 2 ∷ 1 ∷ 7 ∷ []
+
+worthless-share : shareIn worthless 0 ≡ 1
+unfolding worth bit readPlan readFrom commandAt fault changedTeam changedState decLe partition share
+worthless-share = share-by worthless 0 1 refl
+
 -- ---- sets that are no words
 
 -- whether two sets have the same members below m
@@ -288,6 +304,11 @@ appendixD-m = refl
 pub appendixD-n : readPlan appendixD .n ≡ 2
 unfolding readPlan readFrom commandAt fault changedTeam changedState
 appendixD-n = refl
+
+-- both teams are present
+pub appendixD-present : (present (readPlan appendixD) 0 ≡ true) × (present (readPlan appendixD) 1 ≡ true)
+unfolding readPlan readFrom commandAt fault changedTeam changedState
+appendixD-present = (refl, refl)
 
 -- what the sets of the sheet below are worth to the two teams
 pub appendixD-0-none : worthIn appendixD 0 0 ≡ 0

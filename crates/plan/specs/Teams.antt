@@ -1,9 +1,10 @@
--- From a reading of a plan the matroid of each team (document 01, "Worth and share").
+-- From a reading of a plan the matroid of each team (document 01, "Worth and share"), and which teams are present (document 02, note 2).
 use Prim.Native.Nat.{ℕ, _-_, _^_}
-use mathlib.Core.Bool.{cond}
+use mathlib.Core.Bool.{_&&_, cond}
 use mathlib.Core.List.{List, [], _∷_}
 use lib.Dec.{ltb}
 use lib.ListN.{getD}
+use Rattle.matroid.specs.Set.{Set, size}
 use Rattle.matroid.specs.Matroid.{Matroid}
 use Rattle.matroid.specs.Cuts.{each}
 use Rattle.team.specs.Team.{blankTeam}
@@ -27,3 +28,11 @@ valuationsOf r = each 12 (λ t. valuationOf r t ∷ [])
 -- the matroid of team t
 abbrev pub teamMatroid : (r : Reading) → ℕ → Matroid (r .m)
 teamMatroid r t = matroidOf (r .m) (valuationOf r t)
+
+-- the teams that are present: those of the plan "with channels above 0"
+abbrev pub present : Reading → Set
+present r t = ltb t (r .n) && ltb 0 (getD (r .teams) t blankTeam .channels)
+
+-- "p, the number of teams with channels above 0"
+abbrev pub presentCount : Reading → ℕ
+presentCount r = size (r .n) (present r)

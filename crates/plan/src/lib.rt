@@ -4,7 +4,8 @@ ghost use lib.ListN.{length, getD};
 ghost use Rattle.team.specs.Team.{blankTeam};
 ghost use Rattle.plan.specs.Read.{readPlan, refused, finished};
 ghost use Rattle.plan.specs.Progress.{rowAt, Ended};
-ghost use Rattle.plan.specs.Teams.{valuationsOf};
+ghost use Rattle.sets.specs.Bits.{bit};
+ghost use Rattle.plan.specs.Teams.{valuationsOf, present};
 ghost use Rattle.plan.specs.Valid.{Valid};
 ghost use Rattle.plan.specs.Worth.{worthAnswer, WorthTold};
 use command::State;
@@ -117,6 +118,22 @@ pub fn valuations_of(r: Reading) -> [Valuation; 12]
         };
     }
     valuations
+}
+
+// The set of the teams of a plan that are present.
+pub fn present_of(r: Reading) -> u64
+    requires { ⌜ Valid r ⌝ }
+    ensures { λ w. ⌜ bit w ≡ present r ⌝ }
+{
+    let count = r.n;
+    let mut here: u64 = 0;
+    for t in 0..count {
+        let team = r.teams[t];
+        if team.channels > 0 {
+            here = sets::with(here, t);
+        }
+    }
+    here
 }
 
 // What Worth answers.

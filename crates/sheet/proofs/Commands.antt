@@ -1,15 +1,16 @@
 -- The first fault of each command, from the bytes and from the answers for its pieces.
-use Prim.Native.Nat.{ℕ, _+_, _*_, _-_, _^_, _≤_, _<_}
-use mathlib.Core.Path.{_≡_, refl, sym, ap, _∙_}
-use mathlib.Core.Bool.{Bool, true, false, _||_}
+use Prim.Native.Nat.{ℕ, zero, suc, _+_, _*_, _-_, _^_, _≤_, _<_}
+use mathlib.Core.Path.{_≡_, refl, sym, ap, _∙_, fun-ext}
+use mathlib.Core.Bool.{Bool, true, false, _||_, cond}
 use mathlib.Core.Logic.{_≢_}
 use mathlib.Core.List.{List, [], _∷_, _++_}
 use native.Mathlib.Omega.{arith}
 use lib.Dec.{eqb, ltb}
 use lib.ListN.{length, getD, length-append}
 use borrow.Author.Tests.{lt-ltb, le-ltb, eq-eqb, ne-eqb}
+use Rattle.matroid.specs.Set.{Set}
 use Rattle.matroid.specs.Cuts.{each}
-use Rattle.sheet.specs.Form.{Test, is, holder, command, part, page, set, setByte, firstFault}
+use Rattle.sheet.specs.Form.{Test, is, below, holder, any, command, bound, part, presentPage, awayPart, awayPage, page, set, setByte, firstFault}
 use Rattle.sheet.proofs.Faults.{Passes, fault-done, fault-stop, fault-to, length-each, each-none, each-stop, each-next, each-done}
 
 module _ (s : List ℕ) where
@@ -80,47 +81,111 @@ holder-pool n t b e f = go (ltb b n)
     go true = refl
     go false = eq-eqb b 255 (sym e ∙ f)
 
+-- ---- bytes with a test each
+
+-- the first k bytes pass
+unfoldable pub BytesPass : (test : ℕ → Test) → List ℕ → (at k : ℕ) → Type 0
+BytesPass test s at k = Passes (each k (λ k. test k ∷ [])) s at
+
+module _ (test : ℕ → Test) (s : List ℕ) (at : ℕ) where
+  -- none at first; then a byte fails, or one more passes, until all do
+  pub bytes-none : BytesPass test s at 0
+  unfolding BytesPass
+  bytes-none = each-none s (λ k. test k ∷ []) 1 (λ k. refl) at
+
+  module _ (k : ℕ) (h : BytesPass test s at k) where
+    pub bytes-stop : (w : ℕ) → k < w → test k (getD s (at + k) 0) ≡ false → at + k ≡ firstFault (each w (λ k. test k ∷ [])) s at
+    unfolding BytesPass
+    bytes-stop w l e =
+        sym
+        (each-stop s (λ k. test k ∷ []) 1 (λ k. refl) w k at (at + k) (at + k) l h (omega arith)
+        (fault-here s (test k) [] (at + k) e) (λ x. omega arith))
+
+    pub bytes-next : test k (getD s (at + k) 0) ≡ true → BytesPass test s at (k + 1)
+    unfolding BytesPass
+    bytes-next e =
+        each-next s (λ k. test k ∷ []) 1 (λ k. refl) k at (at + k) (at + k + 1) h (omega arith)
+        (fault-past s (test k) [] (at + k) (at + k + 1) _ e refl (fault-end s (at + k + 1) _ refl)) (omega arith)
+
+    pub bytes-done : (w : ℕ) → k ≤ w → w ≤ k → at + w ≡ firstFault (each w (λ k. test k ∷ [])) s at
+    unfolding BytesPass
+    bytes-done w l g = sym (each-done s (λ k. test k ∷ []) 1 (λ k. refl) w k at (at + w) l g h (omega arith))
+
+-- byte k of a set, as the code tests it
+pub set-byte : (m k b room : ℕ) (r : Bool) → room ≡ m - 8 * k → r ≡ ltb b (2 ^ room) → setByte m k b ≡ r
+set-byte m k b room r is-room is-r = ap (λ (x : ℕ). ltb b (2 ^ x)) (sym is-room) ∙ sym is-r
+
+-- ---- a row of GIVEs or PARTs, and a team's page
+
+-- a command of three bytes for each instrument
+abbrev pub row : (byte : ℕ) → (test : Test) → (m : ℕ) → List Test
+row byte test m = each m (λ g. command byte g ++ test ∷ [])
+
+-- the nine bytes of a SHARE after its team, share and set, where the team is present and where it is away
+abbrev pub nine : (m : ℕ) → (here : Bool) → List Test
+nine m here = cond here (any ∷ set m) (each 9 (λ k. is 0 ∷ []))
+
+-- the last byte of a PART
+abbrev pub last : (p : ℕ) → (here : Bool) → Test
+last p here = cond here (below p) (is 0)
+
+-- a page by whether its team is present
+abbrev pub pageOf : (m p : ℕ) → (here : Bool) → (t : ℕ) → List Test
+pageOf m p here t = command 20 t ++ (nine m here ++ row 21 (last p here) m)
+
+-- it is the page of the form
+pub page-is : (m p : ℕ) (present : Set) (t : ℕ) → page m p present t ≡ pageOf m p (present t) t
+page-is m p present t = go (present t)
+  where
+    go : (here : Bool) → cond here (presentPage m p t) (awayPage m t) ≡ pageOf m p here t
+    go true = refl
+    go false = refl
+
+-- a part below 1 is 0
+pub part-one : part 1 ≡ awayPart
+part-one = fun-ext (λ g. ap (λ (test : Test). command 21 g ++ test ∷ []) (fun-ext zero-alone))
+  where
+    zero-alone : (b : ℕ) → below 1 b ≡ is 0 b
+    zero-alone zero = refl
+    zero-alone (suc b) = le-ltb (suc b) 1 (omega arith) ∙ sym (ne-eqb (suc b) 0 (λ e. omega arith))
+
 -- the lengths of the pieces
 pub set-length : (m : ℕ) → length (set m) ≡ 8
 unfolding set
 set-length m = refl
 
-pub page-length : (m n t : ℕ) → length (page m n t) ≡ 11 + 3 * m
-page-length m n t =
-    let a = length-append (set m) (each m (part n)) in
-    let b = set-length m in
-    let c = length-each [] (part n) 3 (λ g. refl) m in
-    omega arith
+pub bound-length : (m : ℕ) → length (bound m) ≡ 9
+bound-length m = let e = set-length m in omega arith
 
--- ---- the bytes of a set
+pub row-length : (byte : ℕ) (test : Test) (m : ℕ) → length (row byte test m) ≡ 3 * m
+row-length byte test m = length-each [] (λ g. command byte g ++ test ∷ []) 3 (λ g. refl) m ∙ (omega arith)
 
--- the first k bytes of a set pass
-unfoldable pub SetPasses : (m : ℕ) → List ℕ → (at k : ℕ) → Type 0
-SetPasses m s at k = Passes (each k (λ k. setByte m k ∷ [])) s at
+pub nine-length : (m : ℕ) (here : Bool) → length (nine m here) ≡ 9
+nine-length m true = let e = set-length m in omega arith
+nine-length m false = refl
 
-module _ (m : ℕ) (s : List ℕ) (at : ℕ) where
-  pub set-none : SetPasses m s at 0
-  unfolding SetPasses
-  set-none = each-none s (λ k. setByte m k ∷ []) 1 (λ k. refl) at
+pub page-length : (m p : ℕ) (present : Set) (t : ℕ) → length (page m p present t) ≡ 11 + 3 * m
+page-length m p present t =
+    let a = length-append (nine m (present t)) (row 21 (last p (present t)) m) in
+    let b = nine-length m (present t) in
+    let c = row-length 21 (last p (present t)) m in
+    ap length (page-is m p present t) ∙ (omega arith)
 
-  module _ (k room : ℕ) (r : Bool) (h : SetPasses m s at k) (is-room : room ≡ m - 8 * k) (is-r : r ≡ ltb (getD s (at + k) 0) (2 ^ room)) where
-    -- as the code has it
-    test-is : setByte m k (getD s (at + k) 0) ≡ r
-    test-is = ap (λ (x : ℕ). ltb (getD s (at + k) 0) (2 ^ x)) (sym is-room) ∙ sym is-r
+-- the first fault of a page
+module _ (s : List ℕ) (at m p : ℕ) (here : Bool) (t k : ℕ) (is-k : k ≡ firstFault (command 20 t) s at) where
+  -- its command has a fault
+  pub page-command : k < at + 2 → k ≡ firstFault (pageOf m p here t) s at
+  page-command l = piece-stop s (command 20 t) _ at k 2 refl is-k l
 
-    pub set-stop : k < 8 → r ≡ false → at + k ≡ firstFault (set m) s at
-    unfolding SetPasses set
-    set-stop l e =
-        sym
-        (each-stop s (λ k. setByte m k ∷ []) 1 (λ k. refl) 8 k at (at + k) (at + k) l h (omega arith)
-        (fault-here s (setByte m k) [] (at + k) (test-is ∙ e)) (λ x. omega arith))
+  module _ (passes : at + 2 ≤ k) (b : ℕ) (is-b : b ≡ firstFault (nine m here) s (at + 2)) where
+    -- its share or set has one
+    pub page-nine : b < at + 11 → b ≡ firstFault (pageOf m p here t) s at
+    page-nine l =
+        piece-past s (command 20 t) _ at (at + 2) b k 2 refl is-k passes refl
+        (piece-stop s (nine m here) _ (at + 2) b 9 (nine-length m here) is-b (omega arith))
 
-    pub set-next : r ≡ true → SetPasses m s at (k + 1)
-    unfolding SetPasses
-    set-next e =
-        each-next s (λ k. setByte m k ∷ []) 1 (λ k. refl) k at (at + k) (at + k + 1) h (omega arith)
-        (fault-past s (setByte m k) [] (at + k) (at + k + 1) _ (test-is ∙ e) refl (fault-end s (at + k + 1) _ refl)) (omega arith)
-
-  pub set-done : (k : ℕ) → k ≤ 8 → 8 ≤ k → SetPasses m s at k → at + 8 ≡ firstFault (set m) s at
-  unfolding SetPasses set
-  set-done k l g h = sym (each-done s (λ k. setByte m k ∷ []) 1 (λ k. refl) 8 k at (at + 8) l g h (omega arith))
+    -- its parts decide
+    pub page-parts : at + 11 ≤ b → (r : ℕ) → r ≡ firstFault (row 21 (last p here) m) s (at + 11) → r ≡ firstFault (pageOf m p here t) s at
+    page-parts l r e =
+        piece-past s (command 20 t) _ at (at + 2) r k 2 refl is-k passes refl
+        (piece-past s (nine m here) _ (at + 2) (at + 11) r b 9 (nine-length m here) is-b (omega arith) (omega arith) e)

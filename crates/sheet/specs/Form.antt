@@ -1,9 +1,10 @@
--- The form of a sheet: one test for each byte (document 01, "The sheet", and "Check", refusal 12).
+-- The form of a sheet: one test for each byte (document 01, "The sheet", and "Check", refusal 12; document 02, note 2).
 use Prim.Native.Nat.{ℕ, _+_, _-_, _*_, _^_}
 use mathlib.Core.Bool.{Bool, true, _||_, cond}
 use mathlib.Core.List.{List, [], _∷_, _++_}
 use lib.Dec.{eqb, ltb}
 use lib.ListN.{getD}
+use Rattle.matroid.specs.Set.{Set, size}
 use Rattle.matroid.specs.Cuts.{each}
 
 -- which bytes may stand at a place
@@ -54,21 +55,35 @@ bound m = is 19 ∷ set m
 abbrev pub share : (m t : ℕ) → List Test
 share m t = command 20 t ++ any ∷ set m
 
--- 15 PART: instrument, part (0 to n − 1)
-abbrev pub part : (n g : ℕ) → List Test
-part n g = command 21 g ++ below n ∷ []
+-- 15 PART: instrument, part below p
+abbrev pub part : (p g : ℕ) → List Test
+part p g = command 21 g ++ below p ∷ []
 
 -- 16 END
 abbrev pub end : List Test
 end = is 22 ∷ []
 
--- a team's SHARE and its m PARTs by instrument
-abbrev pub page : (m n t : ℕ) → List Test
-page m n t = share m t ++ each m (part n)
+-- a present team's SHARE and its m PARTs by instrument: "A present team's PART bytes run from 0 to p−1"
+abbrev pub presentPage : (m p t : ℕ) → List Test
+presentPage m p t = share m t ++ each m (part p)
+
+-- the same of a team that is away: "An away team's share, set and PART bytes are all 0"
+abbrev pub awayShare : (t : ℕ) → List Test
+awayShare t = command 20 t ++ each 9 (λ k. is 0 ∷ [])
+
+abbrev pub awayPart : (g : ℕ) → List Test
+awayPart g = command 21 g ++ is 0 ∷ []
+
+abbrev pub awayPage : (m t : ℕ) → List Test
+awayPage m t = awayShare t ++ each m awayPart
+
+-- the page of a team: p teams are present, those in `present`
+abbrev pub page : (m p : ℕ) → (present : Set) → (t : ℕ) → List Test
+page m p present t = cond (present t) (presentPage m p t) (awayPage m t)
 
 -- "HEAD; m GIVEs by instrument; BOUND; then for each team by number its SHARE and m PARTs by instrument; END"
-unfoldable pub form : (m n : ℕ) → List Test
-form m n = head m n ++ (each m (give n) ++ (bound m ++ (each n (page m n) ++ end)))
+unfoldable pub form : (m n : ℕ) → (present : Set) → List Test
+form m n present = head m n ++ (each m (give n) ++ (bound m ++ (each n (page m (size n present) present) ++ end)))
 
 -- The offset of the first byte, from an offset on, that its test does not allow. Where there is none it is the offset after the last test's.
 unfoldable pub firstFault : List Test → List ℕ → ℕ → ℕ

@@ -1,13 +1,14 @@
 // The form of a sheet, byte by byte. Each function answers the offset of the first byte that is not allowed, or the offset after the last
 // byte that it looks at.
 ghost use mathlib.Core.Path.{_≡_};
-ghost use mathlib.Core.List.{_++_};
-ghost use Prim.Native.Nat.{_+_, _*_, _^_, _≤_};
+ghost use mathlib.Core.List.{[], _∷_, _++_};
+ghost use Prim.Native.Nat.{_+_, _*_, _^_, _≤_, _<_};
 ghost use lib.Dec.{ltb};
 ghost use lib.ListN.{length};
 ghost use Rattle.matroid.specs.Cuts.{each};
 ghost use Rattle.sheet.specs.Layout.{lengthOf, giveStart, boundStart};
-ghost use Rattle.sheet.specs.Form.{command, head, give, bound, part, page, end, set, form, firstFault};
+ghost use Rattle.sets.specs.Bits.{bit};
+ghost use Rattle.sheet.specs.Form.{is, command, head, give, bound, part, presentPage, awayPage, page, end, set, form, firstFault};
 use super::bound_start;
 use super::give_start;
 use sets::wide;
@@ -109,28 +110,28 @@ fn bound(sheet: &[u8], at: usize, m: usize) -> usize
     set(sheet, at + 1, m)
 }
 
-// The PART of instrument g.
-fn part(sheet: &[u8], at: usize, n: usize, g: usize) -> usize
+// The PART of instrument g, of p parts.
+fn part(sheet: &[u8], at: usize, p: usize, g: usize) -> usize
     requires { ⌜ at + 3 ≤ length (now sheet) ⌝ }
-    ensures { λ r. ⌜ r ≡ firstFault (part n g) (now (sheet .entry)) at ⌝ }
+    ensures { λ r. ⌜ r ≡ firstFault (part p g) (now (sheet .entry)) at ⌝ }
 {
     let next = command(sheet, at, 0x15, g);
     if next < at + 2 {
         return next;
     }
-    if n <= wide(sheet[at + 2]) {
+    if p <= wide(sheet[at + 2]) {
         return at + 2;
     }
     at + 3
 }
 
 // The PARTs of m instruments.
-fn parts(sheet: &[u8], at: usize, m: usize, n: usize) -> usize
+fn parts(sheet: &[u8], at: usize, m: usize, p: usize) -> usize
     requires { ⌜ at + 3 * m ≤ length (now sheet) ⌝ }
-    ensures { λ r. ⌜ r ≡ firstFault (each m (part n)) (now (sheet .entry)) at ⌝ }
+    ensures { λ r. ⌜ r ≡ firstFault (each m (part p)) (now (sheet .entry)) at ⌝ }
 {
     for g in 0..m {
-        let next = part(sheet, at + 3 * g, n, g);
+        let next = part(sheet, at + 3 * g, p, g);
         if next < at + 3 * g + 3 {
             return next;
         }
@@ -138,10 +139,10 @@ fn parts(sheet: &[u8], at: usize, m: usize, n: usize) -> usize
     at + 3 * m
 }
 
-// The SHARE and the PARTs of team t.
-fn page(sheet: &[u8], at: usize, m: usize, n: usize, t: usize) -> usize
+// The SHARE and the PARTs of team t, which is one of p that are present.
+fn present_page(sheet: &[u8], at: usize, m: usize, p: usize, t: usize) -> usize
     requires { ⌜ at + (11 + 3 * m) ≤ length (now sheet) ⌝ }
-    ensures { λ r. ⌜ r ≡ firstFault (page m n t) (now (sheet .entry)) at ⌝ }
+    ensures { λ r. ⌜ r ≡ firstFault (presentPage m p t) (now (sheet .entry)) at ⌝ }
 {
     let next = command(sheet, at, 0x14, t);
     if next < at + 2 {
@@ -151,18 +152,58 @@ fn page(sheet: &[u8], at: usize, m: usize, n: usize, t: usize) -> usize
     if next < at + 11 {
         return next;
     }
-    parts(sheet, at + 11, m, n)
+    parts(sheet, at + 11, m, p)
+}
+
+// Nine bytes of 0: a share and a set.
+fn zeros(sheet: &[u8], at: usize) -> usize
+    requires { ⌜ at + 9 ≤ length (now sheet) ⌝ }
+    ensures { λ r. ⌜ r ≡ firstFault (each 9 (λ k. is 0 ∷ [])) (now (sheet .entry)) at ⌝ }
+{
+    for k in 0..9usize {
+        if sheet[at + k] != 0 {
+            return at + k;
+        }
+    }
+    at + 9
+}
+
+// The SHARE and the PARTs of team t, which is away: it states 0 alone, so that its parts are below 1.
+fn away_page(sheet: &[u8], at: usize, m: usize, t: usize) -> usize
+    requires { ⌜ at + (11 + 3 * m) ≤ length (now sheet) ⌝ }
+    ensures { λ r. ⌜ r ≡ firstFault (awayPage m t) (now (sheet .entry)) at ⌝ }
+{
+    let next = command(sheet, at, 0x14, t);
+    if next < at + 2 {
+        return next;
+    }
+    let next = zeros(sheet, at + 2);
+    if next < at + 11 {
+        return next;
+    }
+    parts(sheet, at + 11, m, 1)
+}
+
+// The SHARE and the PARTs of team t: p teams are present, those in `here`.
+fn page(sheet: &[u8], at: usize, m: usize, p: usize, here: u64, t: usize) -> usize
+    requires { ⌜ (at + (11 + 3 * m) ≤ length (now sheet)) × (t < 64) ⌝ }
+    ensures { λ r. ⌜ r ≡ firstFault (page m p (bit here) t) (now (sheet .entry)) at ⌝ }
+{
+    if sets::member(here, t) {
+        return present_page(sheet, at, m, p, t);
+    }
+    away_page(sheet, at, m, t)
 }
 
 // What n teams state, and END.
-fn pages(sheet: &[u8], m: usize, n: usize) -> usize
+fn pages(sheet: &[u8], m: usize, n: usize, p: usize, here: u64) -> usize
     requires { ⌜ (m ≤ 64) × (n ≤ 12) × (lengthOf m n ≤ length (now sheet)) ⌝ }
-    ensures { λ r. ⌜ r ≡ firstFault (each n (page m n) ++ end) (now (sheet .entry)) (boundStart m + 9) ⌝ }
+    ensures { λ r. ⌜ r ≡ firstFault (each n (page m p (bit here)) ++ end) (now (sheet .entry)) (boundStart m + 9) ⌝ }
 {
     let width = 11 + 3 * m;
     let mut at = bound_start(m) + 9;
     for t in 0..n {
-        let next = page(sheet, at, m, n, t);
+        let next = page(sheet, at, m, p, here, t);
         if next < at + width {
             return next;
         }
@@ -174,10 +215,10 @@ fn pages(sheet: &[u8], m: usize, n: usize) -> usize
     at + 1
 }
 
-// The first byte that form, order or range does not allow, or the sheet's length.
-pub fn first_fault(sheet: &[u8], m: usize, n: usize) -> usize
+// The first byte that form, order or range does not allow, or the sheet's length. Of n teams those in `here` are present.
+pub fn first_fault(sheet: &[u8], m: usize, n: usize, here: u64) -> usize
     requires { ⌜ (m ≤ 64) × (n ≤ 12) × (lengthOf m n ≤ length (now sheet)) ⌝ }
-    ensures { λ r. ⌜ r ≡ firstFault (form m n) (now (sheet .entry)) 0 ⌝ }
+    ensures { λ r. ⌜ r ≡ firstFault (form m n (bit here)) (now (sheet .entry)) 0 ⌝ }
 {
     let next = head(sheet, m, n);
     if next < 4 {
@@ -192,5 +233,5 @@ pub fn first_fault(sheet: &[u8], m: usize, n: usize) -> usize
     if next < at + 9 {
         return next;
     }
-    pages(sheet, m, n)
+    pages(sheet, m, n, sets::size_below(n, here), here)
 }

@@ -1,5 +1,6 @@
 // Sheets with one byte changed: what Check accepts of them, the search must confirm.
 ghost use Prim.Native.Nat.{_≤_};
+use crate::away;
 use crate::compare;
 use crate::counts;
 use crate::counts::Counts;
@@ -14,15 +15,17 @@ pub fn accepted(plan: &[u8], sheet: &[u8]) -> bool {
     checker::number(checker::check(plan, sheet)) == 0
 }
 
-// What a changed sheet adds to the counts.
-fn of_changed(f: Found, plan: &[u8], sheet: &[u8]) -> Counts
+// What a sheet with the byte at an offset changed adds to the counts. On the page of a team that is away each byte has one value only.
+fn of_changed(f: Found, plan: &[u8], sheet: &[u8], at: usize) -> Counts
     requires { ⌜ (f .m ≤ 5) × (f .n ≤ 3) ⌝ }
 {
+    let away = away::covers(f, at);
     let mut c = counts::none();
     c.changed = 1;
+    c.changed_away = counts::one(away);
     if accepted(plan, sheet) {
         c.changed_accepted = 1;
-        c.changed_wrong = counts::one(!compare::confirms(f, sheet));
+        c.changed_wrong = counts::one(away || !compare::confirms(f, sheet));
     }
     c
 }
@@ -38,7 +41,7 @@ fn change(f: Found, plan: &[u8], space: &mut [u8; 128], long: usize, x: u64) -> 
         return counts::none();
     }
     space[at] = value;
-    let c = of_changed(f, plan, lines::front(space, long));
+    let c = of_changed(f, plan, lines::front(space, long), at);
     space[at] = old;
     c
 }

@@ -1,9 +1,12 @@
 // What a sheet states beside what the search finds.
 ghost use Prim.Native.Nat.{_≤_};
+use crate::away;
 use crate::counts;
 use crate::counts::Counts;
+use crate::cuts;
 use crate::exhaust;
 use crate::exhaust::Found;
+use crate::present;
 use crate::stated;
 use crate::stated::Stated;
 use std::num::wrapping_add_u64;
@@ -72,7 +75,12 @@ fn differences(f: Found, s: Stated) -> Counts {
 pub fn of_sheet(f: Found, sheet: &[u8]) -> Counts
     requires { ⌜ (f .m ≤ 5) × (f .n ≤ 3) ⌝ }
 {
-    differences(f, stated::read(sheet, f.m, f.n))
+    let s = stated::read(sheet, f.m, f.n);
+    let shares = s.shares;
+    let mut c = differences(f, s);
+    c.wrong_cuts = cuts::wrong(f, sheet, shares);
+    c.away_bytes = away::not_zero(f, sheet);
+    c
 }
 
 // Whether the search confirms all that a sheet states.
@@ -80,36 +88,43 @@ pub fn confirms(f: Found, sheet: &[u8]) -> bool
     requires { ⌜ (f .m ≤ 5) × (f .n ≤ 3) ⌝ }
 {
     let c = of_sheet(f, sheet);
-    c.wrong_totals == 0 && c.dependent == 0 && c.wrong_shares == 0 && c.short == 0
+    let division = c.wrong_totals == 0 && c.dependent == 0 && c.short == 0;
+    division && c.wrong_shares == 0 && c.wrong_cuts == 0 && c.away_bytes == 0
 }
 
-// How many of n teams have a share that is not v(all) divided by n.
-fn apart(f: Found) -> u64
-    requires { ⌜ f .n ≤ 3 ⌝ }
+// v(all) divided by p, for each team that is present.
+fn plain_shares(table: [u8; 128], here: [bool; 4], p: usize) -> [u64; 4]
+    requires { ⌜ p ≤ 3 ⌝ }
 {
-    let n = f.n;
-    let table = f.table;
-    let shares = f.shares;
-    let mut count: u64 = 0;
-    for t in 0..n {
-        let plain = exhaust::worth_in(table, t, 31) / (n as u64);
-        if shares[t] != plain {
-            count = wrapping_add_u64(count, 1);
+    let mut plain = [0u64; 4];
+    if p == 0 {
+        return plain;
+    }
+    for t in 0..4usize {
+        if here[t] {
+            plain[t] = exhaust::worth_in(table, t, 31) / (p as u64);
         }
     }
-    count
+    plain
 }
 
 // What a plan adds to the counts, whatever its sheet.
 pub fn of_plan(f: Found) -> Counts
     requires { ⌜ f .n ≤ 3 ⌝ }
 {
+    let here = f.here;
+    let table = f.table;
     let shares = f.shares;
     let bundles = f.bundles;
+    let p = present::count(here, f.n);
     let mut c = counts::none();
     c.plans = 1;
+    c.plans_away = counts::one(p < f.n);
+    c.plans_all_away = counts::one(p == 0);
     c.teams = f.n as u64;
+    c.away = (f.n - p) as u64;
     c.short_best = counts::one(short(bundles, shares) > 0);
-    c.apart = apart(f);
+    c.apart = different(shares, plain_shares(table, here, p));
+    c.raised = different(shares, exhaust::best_shares(table, here, f.n));
     c
 }

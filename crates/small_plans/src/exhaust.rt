@@ -2,14 +2,16 @@
 // 32 entries for each of four teams, by set; a team that is not in the plan has zeros.
 ghost use Prim.Native.Nat.{_≤_, _<_};
 use crate::draw::Drawing;
+use crate::present;
 use std::num::wrapping_add_u64;
 use team::Team;
 
-// What the search finds of a plan of m instruments and n teams: the table of worths, the greatest total, the bundles of the first division
-// that comes to it, and each team's share.
+// What the search finds of a plan of m instruments and n teams: who is present, the table of worths, the greatest total, the bundles of the
+// first division that comes to it, and each team's share.
 pub struct Found {
     pub m: usize,
     pub n: usize,
+    pub here: [bool; 4],
     pub table: [u8; 128],
     pub total: u64,
     pub bundles: [u64; 4],
@@ -118,13 +120,13 @@ pub fn total(table: [u8; 128], bundle: [u64; 4]) -> u64 {
     sum
 }
 
-// What the worst of the first n parts is worth to team t.
-fn least(table: [u8; 128], t: usize, part: [u64; 4], n: usize) -> u64
-    requires { ⌜ n ≤ 3 ⌝ }
+// What the worst of the first p parts is worth to team t.
+pub fn least(table: [u8; 128], t: usize, part: [u64; 4], p: usize) -> u64
+    requires { ⌜ p ≤ 3 ⌝ }
 {
     let mut low: u64 = 255;
-    for p in 0..n {
-        let worth = worth_in(table, t, part[p]);
+    for k in 0..p {
+        let worth = worth_in(table, t, part[k]);
         if worth < low {
             low = worth;
         }
@@ -148,13 +150,13 @@ fn best_division(table: [u8; 128], n: usize) -> usize
     best
 }
 
-// The share of team t: the best of all cuts into n parts, by the worst part.
-fn best_share(table: [u8; 128], t: usize, n: usize) -> u64
-    requires { ⌜ (1 ≤ n) × (n ≤ 3) ⌝ }
+// The share of team t among p: the best of all cuts into p parts, by the worst part.
+fn best_share(table: [u8; 128], t: usize, p: usize) -> u64
+    requires { ⌜ (1 ≤ p) × (p ≤ 3) ⌝ }
 {
     let mut most: u64 = 0;
     for number in 0..243usize {
-        let low = least(table, t, parts(number, n), n);
+        let low = least(table, t, parts(number, p), p);
         if low > most {
             most = low;
         }
@@ -162,13 +164,18 @@ fn best_share(table: [u8; 128], t: usize, n: usize) -> u64
     most
 }
 
-// The share of each of n teams.
-fn best_shares(table: [u8; 128], n: usize) -> [u64; 4]
-    requires { ⌜ (1 ≤ n) × (n ≤ 3) ⌝ }
+// The share of each team that is present, among p; a team that is away has share 0.
+pub fn best_shares(table: [u8; 128], here: [bool; 4], p: usize) -> [u64; 4]
+    requires { ⌜ p ≤ 3 ⌝ }
 {
     let mut shares = [0u64; 4];
-    for t in 0..n {
-        shares[t] = best_share(table, t, n);
+    if p == 0 {
+        return shares;
+    }
+    for t in 0..4usize {
+        if here[t] {
+            shares[t] = best_share(table, t, p);
+        }
     }
     shares
 }
@@ -179,14 +186,16 @@ pub fn search(d: Drawing) -> Found
     ensures { λ r. ⌜ (r .m ≤ 5) × (r .n ≤ 3) ⌝ }
 {
     let teams = d.teams;
+    let here = present::among(teams, d.n);
     let table = worths(teams, d.m, d.n);
     let bundles = parts(best_division(table, d.n), d.n + 1);
     Found {
         m: d.m,
         n: d.n,
+        here,
         table,
         total: total(table, bundles),
         bundles,
-        shares: best_shares(table, d.n),
+        shares: best_shares(table, here, present::count(here, d.n)),
     }
 }

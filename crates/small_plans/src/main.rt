@@ -1,15 +1,18 @@
-// Random plans of up to five instruments and three teams: Build's sheets, and what Check says of them and of changed ones, beside a search
-// through all divisions and all cuts.
+// Random plans of up to five instruments and three teams, about one team in four away: Build's sheets, and what Check says of them and of
+// changed ones, beside a search through all divisions and all cuts.
 use counts::Counts;
 use draw::Family;
 use lines::print;
 
+mod away;
 mod changes;
 mod compare;
 mod counts;
+mod cuts;
 mod draw;
 mod encode;
 mod exhaust;
+mod present;
 mod stated;
 mod trial;
 
@@ -19,7 +22,7 @@ fn caps() -> Family {
         counts: [5, 5, 5, 5, 4, 3, 1, 0],
         teams: [3, 3, 3, 3, 2, 2, 2, 1],
         kinds: [2, 2, 2, 2, 2, 2, 2, 2],
-        channels: [0, 1, 2, 2, 3, 3, 5, 255],
+        channels: [0, 0, 1, 2, 2, 3, 5, 255],
         caps: [0, 1, 1, 1, 1, 2, 2, 3],
         classes: [0, 0, 1, 1, 2, 3, 4, 255],
         joints: [0, 0, 1, 1, 2, 2, 3, 255],
@@ -44,7 +47,7 @@ fn mounts() -> Family {
 // MOUNTS teams whose masks are sparse or full.
 fn masks() -> Family {
     let mut f = mounts();
-    f.channels = [2, 3, 4, 5, 5, 5, 255, 255];
+    f.channels = [0, 0, 3, 4, 5, 5, 255, 255];
     f.mounts = [0, 0, 0, 0, 0, 2, 128, 255];
     f
 }
@@ -64,7 +67,7 @@ fn uneven() -> Family {
     f.kinds = [2, 2, 3, 2, 8, 3, 2, 8];
     f.counts = [5u8; 8];
     f.teams = [2, 3, 2, 3, 2, 3, 2, 3];
-    f.channels = [5, 5, 5, 5, 5, 5, 255, 255];
+    f.channels = [0, 0, 5, 5, 5, 5, 255, 255];
     f.caps = [1, 1, 1, 2, 5, 5, 5, 255];
     f.classes = [0, 0, 1, 1, 1, 2, 2, 255];
     f.joints = [0, 1, 2, 3, 0, 1, 2, 3];

@@ -9,18 +9,26 @@ pub struct Stated {
     pub shares: [u64; 4],
 }
 
-// What the GIVEs of m instruments give to each of four teams.
-fn bundles(sheet: &[u8], m: usize) -> [u64; 4]
-    requires { ⌜ m ≤ 5 ⌝ }
+// The instruments that m GIVEs or PARTs from an offset on name each of four teams or parts for.
+pub fn named(sheet: &[u8], at: usize, m: usize) -> [u64; 4]
+    requires { ⌜ (at ≤ 3000) × (m ≤ 5) ⌝ }
 {
-    let mut bundle = [0u64; 4];
+    let mut set = [0u64; 4];
     for g in 0..m {
-        let t = byte_at(sheet, sheet::give_start(g) + 2) as usize;
-        if t < 4 {
-            bundle[t] = sets::with(bundle[t], g);
+        let k = byte_at(sheet, at + 3 * g + 2) as usize;
+        if k < 4 {
+            set[k] = sets::with(set[k], g);
         }
     }
-    bundle
+    set
+}
+
+// The offset of the page of team t.
+pub fn page_start(m: usize, t: usize) -> usize
+    requires { ⌜ (m ≤ 5) × (t ≤ 3) ⌝ }
+    ensures { λ r. ⌜ r ≤ 2700 ⌝ }
+{
+    sheet::share_start(m, t)
 }
 
 // The shares in the SHAREs of n teams.
@@ -29,7 +37,7 @@ fn shares(sheet: &[u8], m: usize, n: usize) -> [u64; 4]
 {
     let mut share = [0u64; 4];
     for t in 0..n {
-        share[t] = byte_at(sheet, sheet::share_start(m, t) + 2) as u64;
+        share[t] = byte_at(sheet, page_start(m, t) + 2) as u64;
     }
     share
 }
@@ -40,7 +48,7 @@ pub fn read(sheet: &[u8], m: usize, n: usize) -> Stated
 {
     Stated {
         total: byte_at(sheet, 3) as u64,
-        bundles: bundles(sheet, m),
+        bundles: named(sheet, sheet::give_start(0), m),
         shares: shares(sheet, m, n),
     }
 }

@@ -2,7 +2,12 @@
 
 #![allow(dead_code)]
 
-use pool::plan::{operand_count, Plan};
+pub mod away;
+#[cfg(proved)]
+pub mod proved;
+
+use pool::check::layout_of;
+use pool::plan::{operand_count, Plan, Team};
 use pool::random::Random;
 use pool::sample::any_plan;
 use pool::sheet::Layout;
@@ -211,12 +216,27 @@ pub fn loose_commands(random: &mut Random) -> Vec<u8> {
 }
 
 /// Changes one field of a sheet and keeps its form: the verdict is then about content.
-pub fn damage_field(random: &mut Random, layout: Layout, sheet: &mut [u8]) {
+pub fn damage_field(random: &mut Random, plan: &Plan, sheet: &mut [u8]) {
+    let teams = teams_where(plan, Team::present);
+    if teams.is_empty() || random.chance(4, 7) {
+        damage_division(random, layout_of(plan), sheet);
+    } else {
+        let team = random.pick(&teams);
+        damage_page(random, layout_of(plan), team, teams.len(), sheet);
+    }
+}
+
+/// The numbers of the teams that pass a test.
+pub fn teams_where(plan: &Plan, passes: impl Fn(&Team) -> bool) -> Vec<usize> {
+    let teams = 0..plan.teams.len();
+    teams.filter(|&team| passes(&plan.teams[team])).collect()
+}
+
+/// Changes a GIVE, two GIVEs, the set of BOUND or the total.
+fn damage_division(random: &mut Random, layout: Layout, sheet: &mut [u8]) {
     let (m, n) = (layout.instruments, layout.teams);
     let item = random.below(m);
-    let team = random.below(n);
-    let step = random.pick(&[1, 255, 2, 254, 10]);
-    match random.below(6) {
+    match random.below(4) {
         0 if m > 0 => {
             let holder = random.below(n + 1) as u8;
             sheet[layout.give(item) + 2] = if holder == n as u8 { 0xff } else { holder };
@@ -228,15 +248,25 @@ pub fn damage_field(random: &mut Random, layout: Layout, sheet: &mut [u8]) {
         2 if m > 0 => {
             sheet[layout.bound() + 1 + item / 8] ^= 1 << (item % 8);
         }
-        3 if m > 0 => {
+        _ => step(random, &mut sheet[3]),
+    }
+}
+
+/// Changes the set, a PART or the share in the page of a present team, one of `present`.
+fn damage_page(random: &mut Random, layout: Layout, team: usize, present: usize, sheet: &mut [u8]) {
+    let item = random.below(layout.instruments);
+    match random.below(5) {
+        0 | 1 if layout.instruments > 0 => {
             sheet[layout.share(team) + 3 + item / 8] ^= 1 << (item % 8);
         }
-        4 if m > 0 => {
-            sheet[layout.part(team, item) + 2] = random.below(n) as u8;
+        2 | 3 if layout.instruments > 0 => {
+            sheet[layout.part(team, item) + 2] = random.below(present) as u8;
         }
-        _ => {
-            let place = random.pick(&[3, layout.share(team) + 2]);
-            sheet[place] = sheet[place].wrapping_add(step);
-        }
+        _ => step(random, &mut sheet[layout.share(team) + 2]),
     }
+}
+
+/// Makes a byte a little larger or smaller.
+fn step(random: &mut Random, byte: &mut u8) {
+    *byte = byte.wrapping_add(random.pick(&[1, 255, 2, 254, 10]));
 }

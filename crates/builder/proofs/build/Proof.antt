@@ -6,7 +6,7 @@ use Rattle.plan.proofs.Bounds.{valid-reading}
 use Rattle.engine.proofs.Sizes.{given-le}
 use Rattle.engine.proofs.Sharing.{given-count}
 use Rattle.builder.specs.Build.{untouched}
-use Rattle.builder.proofs.Answering.{valid-agents, build-told, answer-read, answer-short, answer-wrote, sheet-wrote}
+use Rattle.builder.proofs.Answering.{valid-agents, away-agents, build-told, answer-read, answer-short, answer-wrote, sheet-wrote}
 use borrow.Author.Needs.{needs}
 use Rattle.builder.proofs.build.Statement.{statement}
 use Rattle.builder.proofs.build.Tie as tie
@@ -26,23 +26,29 @@ returns-2 c = let e = answer-short _ (now (c .before .before .before .before .be
 valuations-of-requires : tie.Need-valuations-of-requires
 valuations-of-requires c κs = valid-reading _ _ (c .before .before .before .before .read .ensures) (c .before .before .if1 .left)
 
+present-of-requires : tie.Need-present-of-requires
+present-of-requires c κs = valid-reading _ _ (c .before .before .before .before .before .read .ensures) (c .before .before .before .if1 .left)
+
 divide-requires : tie.Need-divide-requires
-divide-requires c κs = valid-agents _ _ (valid-reading _ _ (c .before .before .before .before .before .read .ensures) (c .before .before .before .if1 .left)) (c .valuations-of .ensures)
+divide-requires c κs =
+    let v = valid-reading _ _ (c .before .before .before .before .before .before .read .ensures) (c .before .before .before .before .if1 .left) in
+    let row = c .before .valuations-of .ensures in
+    (valid-agents _ _ v row, away-agents _ _ v row _ (c .present-of .ensures))
 
 count-given-requires : tie.Need-count-given-requires
-count-given-requires c κs = let v = valid-reading _ _ (c .before .before .before .before .before .before .before .read .ensures) (c .before .before .before .before .before .if1 .left) in let e = c .before .divide .ensures .full .held .m in omega (arith, v .small)
+count-given-requires c κs = let v = valid-reading _ _ (c .before .before .before .before .before .before .before .before .read .ensures) (c .before .before .before .before .before .before .if1 .left) in let e = c .before .divide .ensures .full .held .m in omega (arith, v .small)
 
 cast-total : tie.Need-cast-total
-cast-total c = let v = valid-reading _ _ (c .before .before .before .before .before .before .before .before .read .ensures) (c .before .before .before .before .before .before .if1 .left) in let is = given-count _ _ _ (c .before .before .divide .ensures .full .held) (c .count-given .ensures) in let most : c .count-given .result ≤ c .before .before .before .before .before .before .before .before .read .result .m = subst⁻¹ (λ (x : ℕ). x ≤ c .before .before .before .before .before .before .before .before .read .result .m) is (given-le _ (c .before .before .divide .result .holding .owner)) in omega (arith, v .small)
+cast-total c = let v = valid-reading _ _ (c .before .before .before .before .before .before .before .before .before .read .ensures) (c .before .before .before .before .before .before .before .if1 .left) in let is = given-count _ _ _ (c .before .before .divide .ensures .full .held) (c .count-given .ensures) in let most : c .count-given .result ≤ c .before .before .before .before .before .before .before .before .before .read .result .m = subst⁻¹ (λ (x : ℕ). x ≤ c .before .before .before .before .before .before .before .before .before .read .result .m) is (given-le _ (c .before .before .divide .result .holding .owner)) in omega (arith, v .small)
 
 write-sheet-requires : tie.Need-write-sheet-requires
-write-sheet-requires c κs = let v = valid-reading _ _ (c .before .before .before .before .before .before .before .before .before .read .ensures) (c .before .before .before .before .before .before .before .if1 .left) in (omega (arith, c .before .before .before .before .before .if2 .left, c .before .before .before .before .before .before .length .ensures), v .small, v .few)
+write-sheet-requires c κs = let v = valid-reading _ _ (c .before .before .before .before .before .before .before .before .before .before .read .ensures) (c .before .before .before .before .before .before .before .before .if1 .left) in (omega (arith, c .before .before .before .before .before .before .if2 .left, c .before .before .before .before .before .before .before .length .ensures), v .small, v .few)
 
 same-length : tie.Need-same-length
 same-length c = search needs
 
 returns-3 : tie.Need-returns-3
-returns-3 c = let v = valid-reading _ _ (c .before .before .before .before .before .before .before .before .before .before .before .before .read .ensures) (c .before .before .before .before .before .before .before .before .before .before .if1 .left) in let e = answer-wrote _ (now (c .before .before .before .before .before .before .before .before .before .before .before .before .before .before .before .args .buffer)) _ (c .before .before .before .before .before .before .before .before .before .before .before .before .read .ensures) (c .before .before .before .before .before .before .before .before .before .before .if1 .left) _ (c .before .before .before .before .before .before .before .before .before .length .ensures) (c .before .before .before .before .before .before .before .before .if2 .left) in (e, (sheet-wrote _ (now (c .before .before .before .before .before .before .before .before .before .before .before .before .before .before .before .args .buffer)) _ (c .before .before .before .before .before .before .before .before .before .before .before .before .read .ensures) v (c .before .before .before .before .before .before .before .before .before .before .if1 .left) _ (c .before .before .before .before .before .before .before .before .before .length .ensures) (c .before .before .before .before .before .before .before .before .if2 .left) _ (c .before .before .before .before .before .before .before .valuations-of .ensures) _ _ (c .before .before .before .before .before .before .divide .result) (c .before .before .write-sheet .ensures) (c .before .before .before .before .before .before .divide .ensures) (c .before .before .before .before .count-given .ensures), build-told _ _ _ e))
+returns-3 c = let v = valid-reading _ _ (c .before .before .before .before .before .before .before .before .before .before .before .before .before .read .ensures) (c .before .before .before .before .before .before .before .before .before .before .before .if1 .left) in let e = answer-wrote _ (now (c .before .before .before .before .before .before .before .before .before .before .before .before .before .before .before .before .args .buffer)) _ (c .before .before .before .before .before .before .before .before .before .before .before .before .before .read .ensures) (c .before .before .before .before .before .before .before .before .before .before .before .if1 .left) _ (c .before .before .before .before .before .before .before .before .before .before .length .ensures) (c .before .before .before .before .before .before .before .before .before .if2 .left) in (e, (sheet-wrote _ (now (c .before .before .before .before .before .before .before .before .before .before .before .before .before .before .before .before .args .buffer)) _ (c .before .before .before .before .before .before .before .before .before .before .before .before .before .read .ensures) v (c .before .before .before .before .before .before .before .before .before .before .before .if1 .left) _ (c .before .before .before .before .before .before .before .before .before .before .length .ensures) (c .before .before .before .before .before .before .before .before .before .if2 .left) _ (c .before .before .before .before .before .before .before .before .valuations-of .ensures) _ (c .before .before .before .before .before .before .before .present-of .ensures) _ _ (c .before .before .before .before .before .before .divide .result) (c .before .before .write-sheet .ensures) (c .before .before .before .before .before .before .divide .ensures) (c .before .before .before .before .count-given .ensures), build-told _ _ _ e))
 
 pub build-spec : {M : Type 1} → statement M
 build-spec =
@@ -53,6 +59,7 @@ build-spec =
     length-requires
     returns-2
     valuations-of-requires
+    present-of-requires
     divide-requires
     count-given-requires
     cast-total

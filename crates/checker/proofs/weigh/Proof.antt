@@ -124,6 +124,7 @@ returns-4 c =
     let r = c .before .before .before .before .before .before .before .before .before .before .before .before .before .before .before .before .before .args .r in
     let sheet = c .before .before .before .before .before .before .before .before .before .before .before .before .before .before .before .before .before .args .sheet .now in
     let valid = c .before .before .before .before .before .before .before .before .before .before .before .before .before .before .before .before .before .pre .0 in
+    let here = c .before .before .before .before .before .before .before .before .before .before .before .before .before .before .before .before .before .pre .2 in
     let row = c .before .before .before .before .before .before .before .before .before .before .before .before .before .before .before .valuations-of in
     let M = matroids (r .m) (row .result) in
     let is-M = agents-are r (row .result) (valid .few) (row .ensures) in
@@ -134,7 +135,7 @@ returns-4 c =
     let given = c .before .before .before .before .before .before .given .ensures (r .m) _ (valid .small) words in
     let bound = bound-word (r .n) M sheet (end .result) _ _ (end .ensures) (c .before .before .before .before .word-at .ensures) (c .before .before .before .bound .ensures) in
     let holds = total-both (r .n) M sheet _ _ total given _ bound (c .before .before .before .before .before .if2 .left) (c .before .before .if3 .left) in
-    weigh-15 r sheet M is-M _ dependent (c .before .before .before .before .before .before .before .before .before .if1 .left) holds _ (c .before .first-wrong .ensures) (c .if4 .taken)
+    weigh-15 r sheet M is-M _ dependent (c .before .before .before .before .before .before .before .before .before .if1 .left) holds _ here _ (c .before .first-wrong .ensures) (c .if4 .taken)
 
 first-short-requires : tie.Need-first-short-requires
 first-short-requires c κs = search needs
@@ -144,6 +145,7 @@ returns-5 c =
     let r = c .before .before .before .before .before .before .before .before .before .before .before .before .before .before .before .before .before .before .before .args .r in
     let sheet = c .before .before .before .before .before .before .before .before .before .before .before .before .before .before .before .before .before .before .before .args .sheet .now in
     let valid = c .before .before .before .before .before .before .before .before .before .before .before .before .before .before .before .before .before .before .before .pre .0 in
+    let here = c .before .before .before .before .before .before .before .before .before .before .before .before .before .before .before .before .before .before .before .pre .2 in
     let row = c .before .before .before .before .before .before .before .before .before .before .before .before .before .before .before .before .before .valuations-of in
     let M = matroids (r .m) (row .result) in
     let is-M = agents-are r (row .result) (valid .few) (row .ensures) in
@@ -154,13 +156,14 @@ returns-5 c =
     let given = c .before .before .before .before .before .before .before .before .given .ensures (r .m) _ (valid .small) words in
     let bound = bound-word (r .n) M sheet (end .result) _ _ (end .ensures) (c .before .before .before .before .before .before .word-at .ensures) (c .before .before .before .before .before .bound .ensures) in
     let holds = total-both (r .n) M sheet _ _ total given _ bound (c .before .before .before .before .before .before .before .if2 .left) (c .before .before .before .before .if3 .left) in
-    weigh-16 r sheet M is-M _ dependent (c .before .before .before .before .before .before .before .before .before .before .before .if1 .left) holds _ (c .before .before .before .first-wrong .ensures) (c .before .before .if4 .left) _ (c .before .first-short .ensures words) (c .if5 .taken)
+    weigh-16 r sheet M is-M _ dependent (c .before .before .before .before .before .before .before .before .before .before .before .if1 .left) holds _ here _ (c .before .before .before .first-wrong .ensures) (c .before .before .if4 .left) _ (c .before .first-short .ensures words) (c .if5 .taken)
 
 returns-6 : tie.Need-returns-6
 returns-6 c =
     let r = c .before .before .before .before .before .before .before .before .before .before .before .before .before .before .before .before .before .before .before .args .r in
     let sheet = c .before .before .before .before .before .before .before .before .before .before .before .before .before .before .before .before .before .before .before .args .sheet .now in
     let valid = c .before .before .before .before .before .before .before .before .before .before .before .before .before .before .before .before .before .before .before .pre .0 in
+    let here = c .before .before .before .before .before .before .before .before .before .before .before .before .before .before .before .before .before .before .before .pre .2 in
     let row = c .before .before .before .before .before .before .before .before .before .before .before .before .before .before .before .before .before .valuations-of in
     let M = matroids (r .m) (row .result) in
     let is-M = agents-are r (row .result) (valid .few) (row .ensures) in
@@ -171,7 +174,7 @@ returns-6 c =
     let given = c .before .before .before .before .before .before .before .before .given .ensures (r .m) _ (valid .small) words in
     let bound = bound-word (r .n) M sheet (end .result) _ _ (end .ensures) (c .before .before .before .before .before .before .word-at .ensures) (c .before .before .before .before .before .bound .ensures) in
     let holds = total-both (r .n) M sheet _ _ total given _ bound (c .before .before .before .before .before .before .before .if2 .left) (c .before .before .before .before .if3 .left) in
-    weigh-none r sheet M is-M _ dependent (c .before .before .before .before .before .before .before .before .before .before .before .if1 .left) holds _ (c .before .before .before .first-wrong .ensures) (c .before .before .if4 .left) _ (c .before .first-short .ensures words) (c .if5 .left)
+    weigh-none r sheet M is-M _ dependent (c .before .before .before .before .before .before .before .before .before .before .before .if1 .left) holds _ here _ (c .before .before .before .first-wrong .ensures) (c .before .before .if4 .left) _ (c .before .first-short .ensures words) (c .if5 .left)
 
 pub weigh-spec : {M : Type 1} → statement M
 weigh-spec =

@@ -13,10 +13,10 @@ fill-requires : tie.Need-fill-requires
 fill-requires c κs = search needs
 
 level-requires : tie.Need-level-requires
-level-requires c κs = divide-levellable _ _ _ _ _ (c .before .before .before .before .pre) (c .before .fill .ensures) (c .before .before .before .all-shares .ensures) (c .before .before .targets-of .ensures)
+level-requires c κs = divide-levellable _ _ _ _ _ _ (c .before .before .before .before .pre .1) (c .before .fill .ensures) (c .before .before .before .all-shares .ensures) (c .before .before .targets-of .ensures)
 
 returns : tie.Need-returns
-returns c = divides _ _ _ _ _ _ (c .before .before .before .before .before .pre) (c .before .before .fill .ensures) (c .before .before .before .before .all-shares .ensures) (c .before .before .before .targets-of .ensures) (c .level .ensures)
+returns c = divides _ _ _ _ _ _ _ (c .before .before .fill .ensures) (c .before .before .before .before .all-shares .ensures) (c .before .before .before .targets-of .ensures) (c .level .ensures)
 
 pub divide-spec : {M : Type 1} → statement M
 divide-spec =

@@ -1,4 +1,3 @@
-use Prim.Native.Nat.{_-_}
 use mathlib.Core.Path.{_≡_, refl, _∙_}
 use native.Mathlib.Omega.{arith}
 use borrow.Author.Tests.{not-true, not-false}
@@ -39,7 +38,7 @@ search-requires : tie.Need-search-requires Inv-loop μ-loop
 search-requires c κs = ready-of _ _ _ (c .before .before .before .before .before .before .loop .inv .0) (c .before .before .before .before .bundles .ensures)
 
 returns-2 : tie.Need-returns-2 Inv-loop μ-loop
-returns-2 c = absurd (level-stuck _ _ (c .before .before .before .before .before .before .before .before .before .before .loop .inv .0) (c .before .before .before .before .before .before .before .before .bundles .result) _ (ready-of _ _ _ (c .before .before .before .before .before .before .before .before .before .before .loop .inv .0) (c .before .before .before .before .before .before .before .before .bundles .ensures)) _ _ _ (c .before .before .before .before .before .before .if1 .left) (c .before .before .before .before .before .before .before .first-short .ensures .short (c .before .before .before .before .before .before .if1 .left)) (c .before .before .before .before .before .only .ensures) (c .before .before .before .before .above .ensures) _ (c .before .before .before .search .ensures) (c .before .before .before .before .before .before .before .before .before .before .before .pre .bound) (c .before .before .before .before .before .before .before .before .before .before .loop .inv .1 ∙ c .before .before .before .before .before .before .before .before .before .before .before .pre .full .full) (c .before .before .before .before .before .before .before .before .before .before .before .pre .allowed) (not-true _ (c .if2 .taken)))
+returns-2 c = absurd (level-stuck _ _ (c .before .before .before .before .before .before .before .before .before .before .loop .inv .0) (c .before .before .before .before .before .before .before .before .bundles .result) _ (ready-of _ _ _ (c .before .before .before .before .before .before .before .before .before .before .loop .inv .0) (c .before .before .before .before .before .before .before .before .bundles .ensures)) _ _ _ (c .before .before .before .before .before .before .if1 .left) (c .before .before .before .before .before .before .before .first-short .ensures .short (c .before .before .before .before .before .before .if1 .left)) (c .before .before .before .before .before .only .ensures) (c .before .before .before .before .above .ensures) _ (c .before .before .before .search .ensures) _ (c .before .before .before .before .before .before .before .before .before .before .before .pre) (c .before .before .before .before .before .before .before .before .before .before .loop .inv .1) (not-true _ (c .if2 .taken)))
 
 moves-back-requires : tie.Need-moves-back-requires Inv-loop μ-loop
 moves-back-requires c κs = let f = c .before .before .before .search .ensures .found (not-false _ (c .if2 .left)) in let b = f .0 .traced .below (c .before .before .before .search .result .end) (f .1) in omega (arith, c .before .before .before .before .before .before .before .before .before .before .loop .inv .0 .small)

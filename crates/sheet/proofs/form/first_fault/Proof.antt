@@ -1,4 +1,5 @@
 use native.Mathlib.Omega.{arith}
+use Rattle.sets.specs.Bits.{bit}
 use Rattle.sheet.proofs.Sizes.{end-inside}
 use Rattle.sheet.proofs.Pages.{form-head, form-gives, form-bound, form-pages}
 use borrow.Author.Needs.{needs}
@@ -11,7 +12,7 @@ head-requires c κs = omega (arith, end-inside (c .before .args .m) (c .before .
 returns : tie.Need-returns
 returns c =
     let args = c .before .before .before .args in
-    form-head (args .m) (args .n) (args .sheet .now) _ (c .before .head .ensures) (c .if1 .taken)
+    form-head (args .m) (args .n) (bit (args .here)) (args .sheet .now) _ (c .before .head .ensures) (c .if1 .taken)
 
 bound-start-requires : tie.Need-bound-start-requires
 bound-start-requires c κs = search needs
@@ -24,7 +25,7 @@ returns-2 c =
     let args = c .before .before .before .before .before .before .args in
     let is-at = c .before .before .bound-start .ensures in
     let l = c .if2 .taken in
-    form-gives (args .m) (args .n) (args .sheet .now) _ (c .before .before .before .before .head .ensures) (c .before .before .before .if1 .left) _ (c .before .gives .ensures) (omega arith)
+    form-gives (args .m) (args .n) (bit (args .here)) (args .sheet .now) _ (c .before .before .before .before .head .ensures) (c .before .before .before .if1 .left) _ (c .before .gives .ensures) (omega arith)
 
 bound-requires : tie.Need-bound-requires
 bound-requires c κs = omega (arith, end-inside (c .before .before .before .before .before .before .args .m) (c .before .before .before .before .before .before .args .n), c .before .before .before .before .before .before .pre .2, c .before .before .bound-start .ensures)
@@ -37,17 +38,20 @@ returns-3 c =
     let args = c .before .before .before .before .before .before .before .before .args in
     let is-at = c .before .before .before .before .bound-start .ensures in
     let l = c .before .before .if2 .left in
-    form-bound (args .m) (args .n) (args .sheet .now) _ (c .before .before .before .before .before .before .head .ensures) (c .before .before .before .before .before .if1 .left) _ (c .before .before .before .gives .ensures) (omega arith) _ _ is-at (c .before .bound .ensures) (c .if3 .taken)
+    form-bound (args .m) (args .n) (bit (args .here)) (args .sheet .now) _ (c .before .before .before .before .before .before .head .ensures) (c .before .before .before .before .before .if1 .left) _ (c .before .before .before .gives .ensures) (omega arith) _ _ is-at (c .before .bound .ensures) (c .if3 .taken)
+
+size-below-requires : tie.Need-size-below-requires
+size-below-requires c κs = search needs
 
 pages-requires : tie.Need-pages-requires
 pages-requires c κs = search needs
 
 returns-4 : tie.Need-returns-4
 returns-4 c =
-    let args = c .before .before .before .before .before .before .before .before .before .args in
-    let is-at = c .before .before .before .before .before .bound-start .ensures in
-    let l = c .before .before .before .if2 .left in
-    form-pages (args .m) (args .n) (args .sheet .now) _ (c .before .before .before .before .before .before .before .head .ensures) (c .before .before .before .before .before .before .if1 .left) _ (c .before .before .before .before .gives .ensures) (omega arith) _ _ is-at (c .before .before .bound .ensures) (c .before .if3 .left) _ (c .pages .ensures)
+    let args = c .before .before .before .before .before .before .before .before .before .before .args in
+    let is-at = c .before .before .before .before .before .before .bound-start .ensures in
+    let l = c .before .before .before .before .if2 .left in
+    form-pages (args .m) (args .n) (bit (args .here)) (args .sheet .now) _ (c .before .before .before .before .before .before .before .before .head .ensures) (c .before .before .before .before .before .before .before .if1 .left) _ (c .before .before .before .before .before .gives .ensures) (omega arith) _ _ is-at (c .before .before .before .bound .ensures) (c .before .before .if3 .left) _ _ (c .before .size-below .ensures) (c .pages .ensures)
 
 pub first-fault-spec : {M : Type 1} → statement M
 first-fault-spec =
@@ -61,5 +65,6 @@ first-fault-spec =
     bound-requires
     add-if3
     returns-3
+    size-below-requires
     pages-requires
     returns-4)

@@ -16,7 +16,7 @@ add-if1 : tie.Need-add-if1
 add-if1 c = search needs
 
 returns : tie.Need-returns
-returns c = command-stop (c .before .before .before .args .sheet .now) _ _ _ _ (c .before .command .ensures) (below (c .before .before .before .args .n)) _ (c .if1 .taken)
+returns c = command-stop (c .before .before .before .args .sheet .now) _ _ _ _ (c .before .command .ensures) (below (c .before .before .before .args .p)) _ (c .if1 .taken)
 
 add-wide : tie.Need-add-wide
 add-wide c = search needs
@@ -31,13 +31,13 @@ add-result : tie.Need-add-result
 add-result c = search needs
 
 returns-2 : tie.Need-returns-2
-returns-2 c = let e = c .before .wide .ensures in let l : c .before .before .before .before .before .before .args .n ≤ getD (c .before .before .before .before .before .before .args .sheet .now) (c .before .before .before .before .before .before .args .at + 2) 0 = omega arith in command-last (c .before .before .before .before .before .before .args .sheet .now) _ _ _ _ (c .before .before .before .before .command .ensures) (below (c .before .before .before .before .before .before .args .n)) (c .before .before .before .if1 .left) _ (le-ltb _ _ l)
+returns-2 c = let e = c .before .wide .ensures in let l : c .before .before .before .before .before .before .args .p ≤ getD (c .before .before .before .before .before .before .args .sheet .now) (c .before .before .before .before .before .before .args .at + 2) 0 = omega arith in command-last (c .before .before .before .before .before .before .args .sheet .now) _ _ _ _ (c .before .before .before .before .command .ensures) (below (c .before .before .before .before .before .before .args .p)) (c .before .before .before .if1 .left) _ (le-ltb _ _ l)
 
 add-result-2 : tie.Need-add-result-2
 add-result-2 c = search needs
 
 returns-3 : tie.Need-returns-3
-returns-3 c = let e = c .before .wide .ensures in let l : getD (c .before .before .before .before .before .before .args .sheet .now) (c .before .before .before .before .before .before .args .at + 2) 0 < c .before .before .before .before .before .before .args .n = omega arith in command-rest (c .before .before .before .before .before .before .args .sheet .now) _ _ _ _ (c .before .before .before .before .command .ensures) (below (c .before .before .before .before .before .before .args .n)) (c .before .before .before .if1 .left) _ (c .before .before .before .before .before .before .args .at + 3) _ (lt-ltb _ _ l) refl (fault-end (c .before .before .before .before .before .before .args .sheet .now) (c .before .before .before .before .before .before .args .at + 3) _ refl)
+returns-3 c = let e = c .before .wide .ensures in let l : getD (c .before .before .before .before .before .before .args .sheet .now) (c .before .before .before .before .before .before .args .at + 2) 0 < c .before .before .before .before .before .before .args .p = omega arith in command-rest (c .before .before .before .before .before .before .args .sheet .now) _ _ _ _ (c .before .before .before .before .command .ensures) (below (c .before .before .before .before .before .before .args .p)) (c .before .before .before .if1 .left) _ (c .before .before .before .before .before .before .args .at + 3) _ (lt-ltb _ _ l) refl (fault-end (c .before .before .before .before .before .before .args .sheet .now) (c .before .before .before .before .before .before .args .at + 3) _ refl)
 
 pub part-spec : {M : Type 1} → statement M
 part-spec =

@@ -4,10 +4,10 @@ use Rattle.small_plans.proofs.exhaust.least.Statement.{statement}
 use Rattle.small_plans.proofs.exhaust.least.Tie as tie
 
 abbrev Inv-loop : tie.InvT-loop
-Inv-loop table t n part low₀ p₀ low p = p ≤ n
+Inv-loop table t p part low₀ k₀ low k = k ≤ p
 
 abbrev μ-loop : tie.MeasureT-loop
-μ-loop table t n part low₀ p₀ low p = n - p
+μ-loop table t p part low₀ k₀ low k = p - k
 
 loop-holds : tie.Need-loop-holds Inv-loop μ-loop
 loop-holds c = search needs
@@ -21,8 +21,8 @@ array-read-worth-in c = search needs
 worth-in-requires : tie.Need-worth-in-requires Inv-loop μ-loop
 worth-in-requires c κs = search needs
 
-add-p : tie.Need-add-p Inv-loop μ-loop
-add-p c = search needs
+add-k : tie.Need-add-k Inv-loop μ-loop
+add-k c = search needs
 
 loop-less : tie.Need-loop-less Inv-loop μ-loop
 loop-less c = search needs
@@ -43,7 +43,7 @@ least-spec =
     mul-worth-in
     array-read-worth-in
     worth-in-requires
-    add-p
+    add-k
     loop-less
     loop-again
     returns)

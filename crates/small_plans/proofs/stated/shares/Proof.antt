@@ -1,6 +1,4 @@
 use Prim.Native.Nat.{_≤_, _-_}
-use native.Mathlib.Omega.{arith}
-use Rattle.sheet.proofs.Sizes.{start-le}
 use borrow.Author.Needs.{needs}
 use Rattle.small_plans.proofs.stated.shares.Statement.{statement}
 use Rattle.small_plans.proofs.stated.shares.Tie as tie
@@ -14,11 +12,11 @@ abbrev μ-loop : tie.MeasureT-loop
 loop-holds : tie.Need-loop-holds Inv-loop μ-loop
 loop-holds c = search needs
 
-share-start-requires : tie.Need-share-start-requires Inv-loop μ-loop
-share-start-requires c κs = search needs
+page-start-requires : tie.Need-page-start-requires Inv-loop μ-loop
+page-start-requires c κs = search needs
 
 add-byte-at : tie.Need-add-byte-at Inv-loop μ-loop
-add-byte-at c = let e = c .share-start .ensures in let l = start-le (c .before .before .before .before .args .m) (c .before .before .loop .t) (omega arith) (omega arith) in omega arith
+add-byte-at c = search needs
 
 byte-at-requires : tie.Need-byte-at-requires Inv-loop μ-loop
 byte-at-requires c κs = search needs
@@ -51,7 +49,7 @@ shares-spec =
     Inv-loop
     μ-loop
     loop-holds
-    share-start-requires
+    page-start-requires
     add-byte-at
     byte-at-requires
     cast-share

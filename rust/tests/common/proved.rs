@@ -1,0 +1,67 @@
+//! Calls of the proved library, each compared with this crate on the same bytes.
+
+use super::{own_sheet, read, Tally};
+use pool::check::layout_of;
+use pool::{build, check, ffi};
+
+/// Bytes before and after a lent buffer that must stay as they are.
+pub const GUARD: usize = 40;
+
+/// The pattern a buffer is filled with beforehand.
+pub fn pattern(length: usize, salt: u8) -> Vec<u8> {
+    let bytes = 0..length;
+    bytes
+        .map(|at| (at as u8).wrapping_mul(37).wrapping_add(salt))
+        .collect()
+}
+
+/// Calls the proved Build on a buffer of this length between guards. Tests the answer
+/// and every byte that must stay; hands back the sheet, if one was written.
+pub fn proved_build(file: &[u8], length: usize, salt: u8) -> Option<Vec<u8>> {
+    let before = pattern(length + 2 * GUARD, salt);
+    let mut memory = before.clone();
+    let answer = ffi::build(file, &mut memory[GUARD..GUARD + length]);
+    let mut scratch = vec![0; length];
+    let expected = build::answer(file, &mut scratch);
+    assert_eq!(answer, expected, "Build, {length} lent: {file:x?}");
+    let written = if answer < 65_536 { answer as usize } else { 0 };
+    assert_eq!(memory[..GUARD], before[..GUARD], "{file:x?}");
+    let after = GUARD + written;
+    assert_eq!(memory[after..], before[after..], "{length}: {file:x?}");
+    (answer < 65_536).then(|| memory[GUARD..after].to_vec())
+}
+
+/// Both checkers give the same verdict, and this is it.
+pub fn same_verdict(file: &[u8], sheet: &[u8]) -> u64 {
+    let own = check::answer(file, sheet);
+    let proved = ffi::check(file, sheet);
+    assert_eq!(proved, own, "Check of {sheet:x?} by {file:x?}");
+    own
+}
+
+/// Sets each byte of a sheet to each value, and counts the verdicts of both checkers.
+pub fn every_byte(file: &[u8], sheet: &[u8], tally: &mut Tally) {
+    for at in 0..sheet.len() {
+        for value in 0..=255 {
+            let mut other = sheet.to_vec();
+            other[at] = value;
+            tally.count(same_verdict(file, &other));
+        }
+    }
+}
+
+/// Total and shares as a sheet states them.
+fn stated(file: &[u8], sheet: &[u8]) -> Vec<u8> {
+    let layout = layout_of(&read(file));
+    let shares = (0..layout.teams).map(|team| sheet[layout.share(team) + 2]);
+    std::iter::once(sheet[3]).chain(shares).collect()
+}
+
+/// Both sheets are accepted by both checkers and state the same.
+pub fn same_sheets(file: &[u8], more: usize, salt: u8) {
+    let own = own_sheet(file);
+    let proved = proved_build(file, own.len() + more, salt).expect("a sheet");
+    assert_eq!(same_verdict(file, &own), 0, "{file:x?}");
+    assert_eq!(same_verdict(file, &proved), 0, "{file:x?}");
+    assert_eq!(stated(file, &own), stated(file, &proved), "{file:x?}");
+}

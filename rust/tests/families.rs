@@ -1,0 +1,55 @@
+//! The families of the benchmark: older ones make the plans they always made.
+
+mod common;
+
+use common::read;
+use pool::family::FAMILIES;
+use pool::random::Random;
+
+/// The FNV-1a sum of a family's plans, ten for each of four sizes.
+fn sum(family: usize) -> u64 {
+    let mut sum = 0xcbf2_9ce4_8422_2325u64;
+    for (m, n) in [(64, 12), (64, 5), (13, 12), (24, 1)] {
+        let mut random = Random::new((1000 * m + n) as u64);
+        for _ in 0..10 {
+            for byte in (FAMILIES[family].plan)(&mut random, m, n) {
+                sum = (sum ^ u64::from(byte)).wrapping_mul(0x100_0000_01b3);
+            }
+        }
+    }
+    sum
+}
+
+#[test]
+fn families_keep_their_places_and_plans() {
+    let expected = [
+        ("dense loops, 6 joints", 0xd95b_8644_7f5b_4e14),
+        ("loops, 16 joints", 0xb42d_3d86_fa0e_833b),
+        ("sparse loops, 64 joints", 0xcbc5_6c97_1743_bb42),
+        ("caps", 0xaac7_4077_7392_8ac4),
+        ("mixed", 0x8fc6_4fb7_de20_71ee),
+        ("all teams alike", 0x2deb_0c22_4f9d_ac68),
+        ("long exchange chains", 0x7905_85be_24af_2351),
+        ("chains, shuffled", 0x82c7_3ec3_f719_49a7),
+        ("one team takes all", 0x17cb_01ac_cf7f_53c7),
+        ("shares use up all", 0xcc33_ecbc_b40d_7839),
+        ("mounts", 0x8a0d_1517_9e71_6475),
+        ("all three kinds", 0x8313_db82_fe1b_6681),
+        ("half the teams away", 0xdf72_e5ae_c945_ee1b),
+    ];
+    assert_eq!(FAMILIES.len(), expected.len());
+    for (family, (name, value)) in expected.into_iter().enumerate() {
+        assert_eq!(FAMILIES[family].name, name);
+        assert_eq!(sum(family), value, "{name}");
+    }
+}
+
+#[test]
+fn half_of_the_teams_are_away() {
+    let family = FAMILIES.last().expect("a family");
+    let mut random = Random::new(601);
+    for n in 1..=12 {
+        let plan = read(&(family.plan)(&mut random, 64, n));
+        assert_eq!(plan.present(), n.div_ceil(2));
+    }
+}
