@@ -90,14 +90,6 @@ fn the_longest_plan() {
     tally.seen([2, 7, 9].into_iter());
 }
 
-/// The verdict of both checkers on a sheet of a plan of one team that gives it this bundle.
-fn bundle_verdict(file: &[u8], bundle: u64) -> u64 {
-    let plan = read(file);
-    let mut found = contents(&plan);
-    found.bundles = vec![bundle];
-    same_verdict(file, &found.bytes(plan.instruments))
-}
-
 #[test]
 fn every_bundle_of_small_mounts_teams() {
     let mut random = Random::new(124);
@@ -290,15 +282,7 @@ fn damaged_fields() {
     for round in 0..cases() / 4 {
         let most = if round % 50 == 0 { 64 } else { 8 };
         let file = some_plan(&mut random, most, 12);
-        let plan = read(&file);
-        let sheet = own_sheet(&file);
-        for _ in 0..8 {
-            let mut other = sheet.clone();
-            for _ in 0..random.between(1, 4) {
-                damage_field(&mut random, &plan, &mut other);
-            }
-            tally.count(same_verdict(&file, &other));
-        }
+        damaged_fields_of(&mut random, &file, &mut tally);
     }
     tally.seen([0, 13, 14, 15, 16].into_iter());
 }
@@ -310,16 +294,7 @@ fn damaged_large_sheets() {
     for _ in 0..cases() / 500 {
         let m = random.between(32, 64);
         let file = any_plan(&mut random, m, 12);
-        let sheet = own_sheet(&file);
-        let proved = proved_build(&file, sheet.len(), 9).expect("a sheet");
-        for _ in 0..100 {
-            let other = damage(&mut random, &sheet, &proved);
-            tally.count(same_verdict(&file, &other));
-            let mut mixed = sheet.clone();
-            let at = random.below(sheet.len());
-            mixed[at..].copy_from_slice(&proved[at..]);
-            tally.count(same_verdict(&file, &mixed));
-        }
+        damaged_bytes_of(&mut random, &file, 9, &mut tally);
     }
     tally.seen([0, 11, 12].into_iter());
 }

@@ -1,7 +1,5 @@
-pub mod Accepted
 pub mod Entries
-pub mod Relabel
-pub mod Grouping
-pub mod Labelling
+pub mod Accepting
+pub mod Carrying
 pub mod Joining
 pub mod Parallel

@@ -17,7 +17,8 @@ use Rattle.loops.specs.Net.{Net, net, joints, spans, ClosedLoop, back, L
 use Rattle.loops.specs.Links.{spans-iff, loop-in, joins-relate, joins-unrelate, joins-spans}
 use Rattle.sets.proofs.Members.{run}
 use Rattle.loops.specs.Trail.{trail, close}
-use Rattle.loops.specs.Groups.{labels, Taken, Together, Bridges, bridges?, no-bridge, same-label, labels-skip, taken-together, together-walk, together-least, groups, groups-same, groups-bridge, groups-coarser}
+use Rattle.loops.specs.Groups.{same-label}
+use Rattle.loops.specs.Labels.{labels, Taken, Together, Bridges, bridges?, no-bridge, labels-skip, taken-together, together-walk, together-least, groups, groups-same, groups-bridge, groups-coarser}
 
 -- round a circle, a value that changes nowhere but at i does not change at i
 around : (f : ℕ → ℕ) (k i : ℕ) → i < k → f k ≡ f 0 → ((j : ℕ) → j < k → j ≢ i → f j ≡ f (suc j)) → f i ≡ f (suc i)
@@ -84,7 +85,7 @@ module _ (N : Net) where
               let here = ap one (T→true (A n) a) in
               omega arith
           | inr out ↦
-              let same = groups-same N A n (λ j. labels-skip N A n j (λ t. T-not (A n) out (t .0))) in
+              let same = groups-same N A n (labels-skip N A n (λ t. T-not (A n) out (t .0))) in
               let here = ap one (T→false (A n) out) in
               omega arith
         ]

@@ -54,6 +54,11 @@ module _ (N : Net) where
   pub link-in : {n m : ℕ} {A S : Set} {g a b : ℕ} → Link N m S g a b → (g < n) × T (A g) → Link N n A g a b
   link-in link (below, member) = record { below = below; member = member; joins = link .joins }
 
+  -- a walk of A whose every instrument is in B too
+  pub walk-in : {n m : ℕ} {A B : Set} → ((g : ℕ) → T (spans N g) → (g < n) × T (A g) → (g < m) × T (B g)) → {x y : ℕ} → Walk N n A x y → Walk N m B x y
+  walk-in into stay = stay
+  walk-in into (step g l w) = step g (link-in l (into g (joins-spans (l .joins)) (l .below, l .member))) (walk-in into w)
+
   -- a loop of S whose every instrument is in A too
   pub loop-in : {n m : ℕ} {A S : Set} (c : ClosedLoop N m S) → ((i : ℕ) → i < c .k → (c .gauge i < n) × T (A (c .gauge i))) → ClosedLoop N n A
   loop-in c into = record {

@@ -3,6 +3,7 @@
 #![allow(dead_code)]
 
 pub mod away;
+pub mod nets;
 #[cfg(proved)]
 pub mod proved;
 

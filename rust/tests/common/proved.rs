@@ -1,7 +1,8 @@
 //! Calls of the proved library, each compared with this crate on the same bytes.
 
-use super::{own_sheet, read, Tally};
+use super::{damage, damage_field, own_sheet, read, Tally};
 use pool::check::layout_of;
+use pool::random::Random;
 use pool::{build, check, ffi};
 
 /// Bytes before and after a lent buffer that must stay as they are.
@@ -39,6 +40,14 @@ pub fn same_verdict(file: &[u8], sheet: &[u8]) -> u64 {
     own
 }
 
+/// The verdict of both checkers on a sheet of a plan of one team that gives it this bundle.
+pub fn bundle_verdict(file: &[u8], bundle: u64) -> u64 {
+    let plan = read(file);
+    let mut found = build::contents(&plan);
+    found.bundles = vec![bundle];
+    same_verdict(file, &found.bytes(plan.instruments))
+}
+
 /// Sets each byte of a sheet to each value, and counts the verdicts of both checkers.
 pub fn every_byte(file: &[u8], sheet: &[u8], tally: &mut Tally) {
     for at in 0..sheet.len() {
@@ -47,6 +56,33 @@ pub fn every_byte(file: &[u8], sheet: &[u8], tally: &mut Tally) {
             other[at] = value;
             tally.count(same_verdict(file, &other));
         }
+    }
+}
+
+/// Damages fields of this crate's sheet of a plan, eight times, and counts the verdicts of both.
+pub fn damaged_fields_of(random: &mut Random, file: &[u8], tally: &mut Tally) {
+    let plan = read(file);
+    let sheet = own_sheet(file);
+    for _ in 0..8 {
+        let mut other = sheet.clone();
+        for _ in 0..random.between(1, 4) {
+            damage_field(random, &plan, &mut other);
+        }
+        tally.count(same_verdict(file, &other));
+    }
+}
+
+/// Damages both sheets of a plan and mixes them, a hundred times, and counts the verdicts.
+pub fn damaged_bytes_of(random: &mut Random, file: &[u8], salt: u8, tally: &mut Tally) {
+    let sheet = own_sheet(file);
+    let proved = proved_build(file, sheet.len(), salt).expect("a sheet");
+    for _ in 0..100 {
+        let other = damage(random, &sheet, &proved);
+        tally.count(same_verdict(file, &other));
+        let mut mixed = sheet.clone();
+        let at = random.below(sheet.len());
+        mixed[at..].copy_from_slice(&proved[at..]);
+        tally.count(same_verdict(file, &mixed));
     }
 }
 

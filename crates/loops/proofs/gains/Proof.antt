@@ -4,24 +4,27 @@ use mathlib.Core.Logic.{⊎-elim}
 use native.Mathlib.Omega.{arith}
 use lib.ListN.{length}
 use Rattle.sets.proofs.Lists.{getD-any}
-use Rattle.sets.specs.Bits.{bit}
 use Rattle.loops.specs.Graphic.{netOf}
+use Rattle.loops.proofs.Accepting.{carried-none}
 use Rattle.loops.proofs.Joining.{Free, free-none, free-take, free-skip, loops-gains}
 use borrow.Author.Needs.{needs}
 use Rattle.loops.proofs.gains.Statement.{statement}
 use Rattle.loops.proofs.gains.Tie as tie
 
 abbrev Inv-loop : tie.InvT-loop
-Inv-loop m set first second label free₀ g₀ free g = (g ≤ m) × Free (netOf first second) (bit set) m g free
+Inv-loop m set first second held free₀ g₀ free g = (g ≤ m) × Free (netOf first second) (held .groups) g free
 
 abbrev μ-loop : tie.MeasureT-loop
-μ-loop m set first second label free₀ g₀ free g = m - g
+μ-loop m set first second held free₀ g₀ free g = m - g
 
-labels-of-requires : tie.Need-labels-of-requires Inv-loop μ-loop
-labels-of-requires c κs = search needs
+empty-requires : tie.Need-empty-requires Inv-loop μ-loop
+empty-requires c κs = search needs
+
+carried-requires : tie.Need-carried-requires Inv-loop μ-loop
+carried-requires c κs = (c .before .pre, carried-none _ _ _ (c .empty .ensures .0) (c .empty .ensures .1))
 
 loop-holds : tie.Need-loop-holds Inv-loop μ-loop
-loop-holds c = (search needs, free-none _ _ _)
+loop-holds c = (search needs, free-none _ _)
 
 array-read-apart : tie.Need-array-read-apart Inv-loop μ-loop
 array-read-apart c = search needs
@@ -43,14 +46,14 @@ loop-less c = search needs
 
 loop-again : tie.Need-loop-again Inv-loop μ-loop
 loop-again c =
-    let lf : length (c .before .before .before .before .before .before .args .t1) ≡ 64 = search needs in
-    let ls : length (c .before .before .before .before .before .before .args .t2) ≡ 64 = search needs in
-    let a = getD-any (c .before .before .before .before .before .before .args .t1) (c .before .before .before .before .loop .g) 0 255 (omega arith) in
-    let b = getD-any (c .before .before .before .before .before .before .args .t2) (c .before .before .before .before .loop .g) 0 255 (omega arith) in (
+    let lf : length (c .before .before .before .before .before .before .before .before .args .t1) ≡ 64 = search needs in
+    let ls : length (c .before .before .before .before .before .before .before .before .args .t2) ≡ 64 = search needs in
+    let a = getD-any (c .before .before .before .before .before .before .before .before .args .t1) (c .before .before .before .before .before .loop .g) 0 255 (omega arith) in
+    let b = getD-any (c .before .before .before .before .before .before .before .before .args .t2) (c .before .before .before .before .before .loop .g) 0 255 (omega arith) in (
       search needs,
       ⊎-elim
-          (λ w. rw (w .2) (free-take _ _ _ (c .before .before .before .before .before .labels-of .result) (c .before .before .before .before .before .labels-of .ensures) _ _ (c .before .before .before .before .loop .inv .1) _ _ a b _ (sym (c .before .apart .ensures) ∙ w .0 .taken) (w .1 .ensures)))
-          (λ w. rw (w .1) (free-skip _ _ _ (c .before .before .before .before .before .labels-of .result) (c .before .before .before .before .before .labels-of .ensures) _ _ (c .before .before .before .before .loop .inv .1) _ _ a b (sym (c .before .apart .ensures) ∙ w .0 .left)))
+          (λ w. rw (w .2) (free-take _ _ _ _ (c .before .before .before .before .before .loop .inv .1) _ _ a b _ (sym (c .before .apart .ensures) ∙ w .0 .taken) (w .1 .ensures)))
+          (λ w. rw (w .1) (free-skip _ _ _ _ (c .before .before .before .before .before .loop .inv .1) _ _ a b (sym (c .before .apart .ensures) ∙ w .0 .left)))
           (c .if1 .came),
     )
 
@@ -58,7 +61,9 @@ minus-requires : tie.Need-minus-requires Inv-loop μ-loop
 minus-requires c κs = search needs
 
 returns : tie.Need-returns Inv-loop μ-loop
-returns c = let e : c .before .before .loop .g ≡ c .before .before .before .before .args .m = omega arith in loops-gains _ _ _ _ _ (rw e at (c .before .before .loop .inv .1)) (c .minus .ensures)
+returns c =
+    let e : c .before .before .loop .g ≡ c .before .before .before .before .before .args .m = omega arith in
+    loops-gains _ _ _ _ _ (c .before .before .before .before .empty .ensures .0) (c .before .before .before .before .before .pre) (c .before .before .before .carried .ensures) _ _ (rw e at (c .before .before .loop .inv .1)) (c .minus .ensures)
 
 pub gains-spec : {M : Type 1} → statement M
 gains-spec =
@@ -66,7 +71,8 @@ gains-spec =
     (tie.spec
     Inv-loop
     μ-loop
-    labels-of-requires
+    empty-requires
+    carried-requires
     loop-holds
     array-read-apart
     array-read-apart-2
