@@ -11,6 +11,8 @@ static const struct plan_form forms[] = {
     [PLAN_END] = {.name = "END", .size = 0, .count = 0},
     [PLAN_MOUNTS] = {"MOUNTS", 0, 1, 1, {OPERAND_CHANNELS}},
     [PLAN_FIT] = {"FIT", PLAN_MOUNTS, 5, 2, {OPERAND_INSTRUMENT, OPERAND_MOUNTS}},
+    [PLAN_SHELF] = {"SHELF", 0, 5, 3, {OPERAND_INSTRUMENT, OPERAND_FROM, OPERAND_TO}},
+    [PLAN_DAYS] = {"DAYS", 0, 4, 2, {OPERAND_FROM, OPERAND_TO}},
 };
 
 static const struct plan_operand operands[] = {
@@ -22,6 +24,8 @@ static const struct plan_operand operands[] = {
     [OPERAND_INSTRUMENT] = {"instrument", 1, 0, 0},
     [OPERAND_JOINT] = {"joint", 1, 0, 64},
     [OPERAND_MOUNTS] = {"mounts", 4, 0, UINT64_C(1) << 32},
+    [OPERAND_FROM] = {"from", 2, 0, 65536},
+    [OPERAND_TO] = {"to", 2, 0, 65536},
 };
 
 /* The form of a command byte; null if it is no command. */

@@ -15,7 +15,9 @@ enum plan_byte {
     PLAN_END = 0x07,
     PLAN_MOUNTS = 0x08,
     PLAN_FIT = 0x09,
-    PLAN_LAST = PLAN_FIT
+    PLAN_SHELF = 0x0A,
+    PLAN_DAYS = 0x0B,
+    PLAN_LAST = PLAN_DAYS
 };
 
 /* What an operand stands for. */
@@ -27,7 +29,9 @@ enum operand {
     OPERAND_CAP,
     OPERAND_INSTRUMENT,
     OPERAND_JOINT,
-    OPERAND_MOUNTS
+    OPERAND_MOUNTS,
+    OPERAND_FROM,
+    OPERAND_TO
 };
 
 #define PLAN_OPERANDS_MAX 3
@@ -35,7 +39,7 @@ enum operand {
 /* A command's name, the kind of team it belongs to, and its operands. */
 struct plan_form {
     const char *name;
-    uint8_t team; /* the command byte that opens such a team; 0 if it belongs to none */
+    uint8_t team; /* the command byte that opens such a team; 0 if it belongs to no kind */
     size_t size;  /* of its operands, in bytes */
     size_t count; /* of its operands */
     enum operand operands[PLAN_OPERANDS_MAX];

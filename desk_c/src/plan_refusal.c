@@ -1,5 +1,6 @@
-/* What is wrong with a plan, in words: refusals 1 to 9. */
+/* What is wrong with a plan, in words: refusals 1 to 9 and 17. */
 #include "plan.h"
+#include "plan_days.h"
 #include "refusal.h"
 
 #include <inttypes.h>
@@ -96,6 +97,11 @@ static void print_misplaced(const struct fault *fault)
         fprintf(fault->out, "ends a plan without teams; a plan has 1 to %d teams.", POOL_TEAMS_MAX);
     else if (fault->form->team != 0)
         print_wrong_team(fault);
+    else if (fault->command[0] == PLAN_SHELF && fault->place.teams > 0)
+        fprintf(fault->out, "is in the wrong place; it belongs before the first team, and team %zu is open.",
+                fault->place.teams - 1);
+    else if (fault->command[0] == PLAN_DAYS && fault->place.teams == 0)
+        fputs("is in the wrong place; it belongs to a team, and no team is open.", fault->out);
     else
         fputs("is in the wrong place.", fault->out);
 }
@@ -143,27 +149,52 @@ static void print_out_of_range(const struct fault *fault)
     fputs("has an operand out of its range.", fault->out);
 }
 
-/* Finds the first command of the open team that names what the faulty one names. */
+/* Tells whether a command names what the faulty one names: the same class or instrument, or for DAYS its team. */
+static bool names_same(const struct fault *fault, const uint8_t *command)
+{
+    return command[0] == fault->command[0] && (command[0] == PLAN_DAYS || command[1] == fault->command[1]);
+}
+
+/* Finds the first command of the open team, or before all teams, that names what the faulty one names. */
 static struct plan_place first_naming(const struct fault *fault)
 {
     struct plan_place place = plan_at(fault->plan, fault->place.team);
 
     while (plan_next(fault->plan, &place))
-        if (fault->plan->at[place.offset] == fault->command[0] &&
-            fault->plan->at[place.offset + 1] == fault->command[1])
+        if (names_same(fault, fault->plan->at + place.offset))
             break;
     return place;
 }
 
-/* 6: a class is capped twice or an instrument named twice in one team. */
+/* Tells whether a command names something where it stands: SHELF before all teams, others in a team. */
+static bool can_repeat(const struct fault *fault)
+{
+    if (fault->command[0] == PLAN_SHELF)
+        return fault->place.teams == 0;
+    return fault->size > 1 && fault->place.teams > 0;
+}
+
+/* Prints what a command names, and in which team. */
+static void print_named(const struct fault *fault)
+{
+    if (fault->command[0] == PLAN_SHELF)
+        fprintf(fault->out, "names the shelf days of instrument %u a second time", fault->command[1]);
+    else if (fault->command[0] == PLAN_DAYS)
+        fprintf(fault->out, "names the days of team %zu a second time", fault->place.teams - 1);
+    else
+        fprintf(fault->out, "%s %u a second time in team %zu",
+                fault->command[0] == PLAN_CLASS ? "caps class" : "names instrument", fault->command[1],
+                fault->place.teams - 1);
+}
+
+/* 6: a class is capped twice, an instrument named twice in one team, or days named twice. */
 static void print_repeated(const struct fault *fault)
 {
     struct plan_place first = first_naming(fault);
 
     print_command(fault);
-    fputs(fault->command[0] == PLAN_CLASS ? "caps class" : "names instrument", fault->out);
-    fprintf(fault->out, " %u a second time in team %zu; the first time is command %zu at byte %zu.", fault->command[1],
-            fault->place.teams - 1, first.number, first.offset);
+    print_named(fault);
+    fprintf(fault->out, "; the first time is command %zu at byte %zu.", first.number, first.offset);
 }
 
 /* 7: there are too many teams. */
@@ -188,25 +219,42 @@ static void print_extra(const struct fault *fault)
             fault->place.offset, fault->place.number - 1, fault->place.previous);
 }
 
-/* Prints the fault of a command that is whole, for the numbers 4 to 8; answers false for another number. */
+/* Tells whether a command has a from and a to. */
+static bool has_days(const struct fault *fault)
+{
+    return fault->command[0] == PLAN_SHELF || fault->command[0] == PLAN_DAYS;
+}
+
+/* 17: a from is not below its to. */
+static void print_wrong_days(const struct fault *fault)
+{
+    struct plan_days days = plan_days(fault->command + fault->size - PLAN_DAYS_SIZE);
+
+    print_command(fault);
+    fprintf(fault->out, "has from %u and to %u; from has to be below to.", days.from, days.to);
+}
+
+/* Prints the fault of a command that is whole, for the numbers 4 to 8 and 17; answers false for another number. */
 static bool print_whole(const struct fault *fault, uint64_t number)
 {
     if (number == 4)
         print_misplaced(fault);
     else if (number == 5)
         print_out_of_range(fault);
-    else if (number == 6 && fault->size > 1 && fault->place.teams > 0)
+    else if (number == 6 && can_repeat(fault))
         print_repeated(fault);
     else if (number == 7)
         print_too_many_teams(fault);
     else if (number == 8 && fault->size > 2)
         print_equal_joints(fault);
+    else if (number == 17 && has_days(fault))
+        print_wrong_days(fault);
     else
         return false;
     return true;
 }
 
-/* Prints what is wrong with the plan, for the numbers 1 to 9; answers false for another refusal. */
+/* Prints what is wrong with the plan, for the numbers 1 to 9 and 17; answers false for another refusal. */
 bool refusal_print_plan(FILE *out, const struct refusal *refusal)
 {
     struct fault fault = find_fault(out, refusal);

@@ -18,7 +18,7 @@ struct refusal {
 /* Prints a refusing answer of the library: a line with number and place, and a line that says what is wrong. */
 enum status refuse(FILE *out, uint64_t answer, const struct content *plan, const struct content *sheet);
 
-/* Prints what is wrong with the plan, for the numbers 1 to 9; answers false for another refusal. */
+/* Prints what is wrong with the plan, for the numbers 1 to 9 and 17; answers false for another refusal. */
 bool refusal_print_plan(FILE *out, const struct refusal *refusal);
 
 /* Prints what is wrong with the buffer or the sheet, for the numbers 10 to 16; answers false for another refusal. */

@@ -1,5 +1,6 @@
 /* What is wrong with a buffer or a sheet, in words: refusals 10 to 16. */
 #include "plan.h"
+#include "plan_days.h"
 #include "refusal.h"
 #include "sheet.h"
 #include "sheet_field.h"
@@ -51,13 +52,40 @@ static const char *rule(uint8_t kind)
     return "A MOUNTS team may hold only instruments with a FIT, each on a mount of its own that it fits";
 }
 
+/* The lowest instrument given to a team whose days do not lie within its shelf days; their count if there is none. */
+static size_t find_off_shelf(const struct subject *subject)
+{
+    size_t instrument = 0;
+
+    while (instrument < subject->shape.instruments &&
+           (sheet_owner(subject->sheet, instrument) != subject->place ||
+            plan_is_usable(subject->plan, subject->place, instrument)))
+        instrument++;
+    return instrument;
+}
+
+/* Prints the days of a team and the shelf days of an instrument that do not hold them. */
+static void print_off_shelf(const struct subject *subject, size_t instrument)
+{
+    struct plan_days days = plan_team_days(subject->plan, subject->place);
+    struct plan_days shelf = plan_shelf_days(subject->plan, instrument);
+
+    fprintf(subject->out, "The team's days, %u to %u, do not lie within the shelf days of instrument %zu, %u to %u.",
+            days.from, days.to, instrument, shelf.from, shelf.to);
+}
+
 /* 13: a team's bundle is not independent. */
 static void print_dependent(const struct subject *subject)
 {
+    size_t off_shelf = find_off_shelf(subject);
+
     fprintf(subject->out, "Team %zu is given the instruments", subject->place);
     sheet_print_held(subject->out, subject->sheet, subject->shape, subject->place);
-    fprintf(subject->out, ", which are not independent for it. %s, and no more than its channels.",
-            rule(plan_kind(subject->plan, subject->place)));
+    fputs(", which are not independent for it. ", subject->out);
+    if (off_shelf < subject->shape.instruments)
+        print_off_shelf(subject, off_shelf);
+    else
+        fprintf(subject->out, "%s, and no more than its channels.", rule(plan_kind(subject->plan, subject->place)));
 }
 
 /* 14: the total is not the number of given instruments or not what BOUND's set shows. */

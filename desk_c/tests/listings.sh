@@ -60,7 +60,7 @@ same_listing() {
     "$desk" build "$1" built.sheet && "$desk" explain "$1" >plan.listing &&
         "$desk" explain "$1" built.sheet >sheet.listing && [ -s plan.listing ] && cmp -s plan.listing sheet.listing
 }
-for plan in a zero six mounts week away fits longest rings most all some teams; do
+for plan in a zero six mounts week away term fits longest rings most all some teams; do
     verdict "the listings of $plan.plan and of its sheet are the same" same_listing $plan.plan
 done
 

@@ -47,6 +47,23 @@ pooled='15 00 00 15 01 00 15 02 00'
 sheet_away="11 03 02 00 12 00 FF 12 01 FF 12 02 FF 13 07 00 00 00 00 00 00 00
     14 00 00 $none $pooled 14 01 00 $none $pooled 16"
 
+# Four instruments and a team of each kind: 2 is on the shelf from 0 to 7, 3 from 7 to 14. Team 0 wants the days 0 to 7,
+# team 1 wants 7 to 14, and team 2 has no DAYS.
+plan_term='01 01 04 0A 02 00 00 07 00 0A 03 07 00 0E 00
+    02 04 04 00 04 05 00 00 05 01 00 05 02 00 05 03 00 0B 00 00 07 00
+    03 04 0B 07 00 0E 00 06 00 01 02 06 01 02 03 06 02 03 04 06 03 04 05
+    08 04 09 00 01 00 00 00 09 01 02 00 00 00 09 02 04 00 00 00 09 03 08 00 00 00 07'
+
+# The offsets in its sheet are those of the week's.
+thirds='15 00 00 15 01 01 15 02 02 15 03 02'
+sheet_term="11 04 03 04 12 00 02 12 01 02 12 02 00 12 03 01 13 $none 14 00 01 $none $thirds 14 01 01 $none $thirds
+    14 02 00 0C 00 00 00 00 00 00 00 15 00 00 15 01 00 15 02 00 15 03 00 16"
+
+# Prints a SHELF in hexadecimal: days that hold 7 to 14.
+long_shelf() {
+    printf ' 0A %02x %02x 00 %02x 00' "$1" $(($1 % 8)) $((14 + $1))
+}
+
 # Prints a SPAN in hexadecimal: gauges in a ring of 64 joints.
 ring_span() {
     printf ' 06 %02x %02x %02x' "$1" "$1" $((($1 + 1) % 64))
@@ -58,17 +75,22 @@ ring_fit() {
     printf ' 09 %02x %02x %02x %02x %02x' "$1" $((mask & 255)) $((mask >> 8 & 255)) $((mask >> 16 & 255)) $((mask >> 24))
 }
 
-# Prints a plan of twelve teams and 64 instruments in hexadecimal: twelve_teams OPENING CHANNELS COMMAND
+# Prints a command for each of 64 instruments in hexadecimal: for_each COMMAND
+for_each() {
+    gauge=0
+    while [ $gauge -lt 64 ]; do
+        "$1" $gauge
+        gauge=$((gauge + 1))
+    done
+}
+
+# Prints twelve teams and END in hexadecimal: twelve_teams OPENING CHANNELS COMMAND DAYS
 twelve_teams() {
-    printf '01 01 40'
     team=0
     while [ $team -lt 12 ]; do
         printf ' %s %s' "$1" "$2"
-        gauge=0
-        while [ $gauge -lt 64 ]; do
-            "$3" $gauge
-            gauge=$((gauge + 1))
-        done
+        for_each "$3"
+        printf ' %s' "$4"
         team=$((team + 1))
     done
     printf ' 07'
@@ -129,8 +151,10 @@ write_samples() {
     hex week.sheet $sheet_week
     hex away.plan $plan_away
     hex away.sheet $sheet_away
-    hex longest.plan $(twelve_teams 08 06 ring_fit)
-    hex rings.plan $(twelve_teams 03 06 ring_span)
+    hex term.plan $plan_term
+    hex term.sheet $sheet_term
+    hex longest.plan 01 01 40 $(for_each long_shelf) $(twelve_teams 08 06 ring_fit '0B 07 00 0E 00')
+    hex rings.plan 01 01 40 $(twelve_teams 03 06 ring_span '')
     hex dealt.sheet $(dealt_sheet)
     hex some.plan $plan_some
     hex teams.plan $plan_teams

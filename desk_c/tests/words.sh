@@ -5,8 +5,12 @@ expect 'words of refusal 10' 0 'REFUSED 10 54
 The buffer lent for the sheet is too short; the sheet has 54 bytes.' '' "$words" 10 54 a.plan -
 expect 'words of refusal 10 with a sheet' 0 'REFUSED 10 59
 The buffer lent for the listing is too short; the listing has 59 bytes.' '' "$words" 10 59 a.plan a.sheet
-expect 'no words for number 17' 0 'REFUSED 17 3
+expect 'no words for number 18' 0 'REFUSED 18 3
+This program has no words for that number and place.' '' "$words" 18 3 a.plan a.sheet
+expect 'no words for number 17 at a command without days' 0 'REFUSED 17 3
 This program has no words for that number and place.' '' "$words" 17 3 a.plan a.sheet
+expect 'no words for number 6 at a SHELF after a team' 0 'REFUSED 6 5
+This program has no words for that number and place.' '' "$words" 6 5 late.plan -
 expect 'no words for a place within a command' 0 'REFUSED 5 1
 This program has no words for that number and place.' '' "$words" 5 1 a.plan -
 
@@ -24,6 +28,7 @@ longest.plan longest.sheet
 mounts.plan mounts.sheet
 week.plan week.sheet
 away.plan away.sheet
+term.plan term.sheet
 huge.plan huge.sheet
 empty empty
 bad.plan a.sheet

@@ -4,11 +4,11 @@ use crate::bits;
 use crate::definition;
 use crate::plan::{Plan, Team};
 
-/// Worth by definition of every set of the first `instruments` instruments.
-pub fn worth_table(team: &Team, instruments: usize) -> Vec<u32> {
-    let all = bits::first(instruments);
+/// Worth by definition of every set of the plan's instruments.
+pub fn worth_table(plan: &Plan, team: &Team) -> Vec<u32> {
+    let all = plan.all();
     let independent: Vec<bool> = (0..=all)
-        .map(|set| definition::independent(team, set))
+        .map(|set| definition::independent(plan, team, set))
         .collect();
     let largest = |set| {
         let parts = bits::subsets(set).filter(|&part| independent[part as usize]);
@@ -34,7 +34,7 @@ pub fn share(plan: &Plan, team: &Team) -> u32 {
     if !team.present() {
         return 0;
     }
-    let table = worth_table(team, plan.instruments);
+    let table = worth_table(plan, team);
     let mut best = 0;
     every_division(plan.instruments, plan.present(), &mut |parts| {
         let worths = parts.iter().map(|&set| table[set as usize]);
@@ -75,7 +75,7 @@ pub fn share_by_sets(plan: &Plan, team: &Team) -> u32 {
     if !team.present() {
         return 0;
     }
-    let table = worth_table(team, plan.instruments);
+    let table = worth_table(plan, team);
     let start = vec![u32::MAX; 1 << plan.instruments];
     let last = (0..plan.present()).fold(start, |best, _| combine(&best, &table, u32::min));
     last.last().copied().unwrap_or(0)
@@ -93,7 +93,5 @@ fn combine(best: &[u32], table: &[u32], join: impl Fn(u32, u32) -> u32) -> Vec<u
 /// The worth table of each team.
 fn tables(plan: &Plan) -> Vec<Vec<u32>> {
     let teams = plan.teams.iter();
-    teams
-        .map(|team| worth_table(team, plan.instruments))
-        .collect()
+    teams.map(|team| worth_table(plan, team)).collect()
 }

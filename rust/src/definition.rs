@@ -1,25 +1,32 @@
 //! Independence and worth word for word, for small sets.
 
 use crate::bits;
-use crate::plan::{Bipartite, Classes, Graph, Kind, Team, CLASSES, JOINTS, MOUNTS};
+use crate::plan::{Bipartite, Classes, Graph, Kind, Plan, Team, CLASSES, JOINTS, MOUNTS};
 
-/// Independence: all named, the kind's own rule, and no more than the channels.
-pub fn independent(team: &Team, set: u64) -> bool {
+/// Independence: all on the shelf on the team's days, all named, the kind's own rule, and no
+/// more than the channels.
+pub fn independent(plan: &Plan, team: &Team, set: u64) -> bool {
     let fits = bits::size(set) <= u32::from(team.channels);
-    fits && match &team.kind {
-        Kind::Caps(classes) => within_caps(classes, set),
-        Kind::Loops(graph) => all_span(graph, set) && !closed_loop(graph, set),
-        Kind::Mounts(bipartite) => all_mounted(bipartite, set, 0),
-    }
+    fits && all_on_shelf(plan, team, set)
+        && match &team.kind {
+            Kind::Caps(classes) => within_caps(classes, set),
+            Kind::Loops(graph) => all_span(graph, set) && !closed_loop(graph, set),
+            Kind::Mounts(bipartite) => all_mounted(bipartite, set, 0),
+        }
 }
 
 /// Worth: the size of the largest independent part of `set`.
-pub fn worth(team: &Team, set: u64) -> u32 {
+pub fn worth(plan: &Plan, team: &Team, set: u64) -> u32 {
     bits::subsets(set)
-        .filter(|&part| independent(team, part))
+        .filter(|&part| independent(plan, team, part))
         .map(bits::size)
         .max()
         .unwrap_or(0)
+}
+
+/// The team's days lie within the shelf days of each instrument.
+fn all_on_shelf(plan: &Plan, team: &Team, set: u64) -> bool {
+    bits::members(set).all(|item| team.days().within(plan.shelf.days_of(item)))
 }
 
 /// Each instrument was PUT and no class has more than its cap.

@@ -1,4 +1,4 @@
-//! Named example plans: plan A and five weeks of growing size. In each of the weeks the
+//! Named example plans: plan A and six others of growing size. In each of those the
 //! greatest total alone would leave some team below its share.
 
 use crate::writer::{plan_a, PlanWriter};
@@ -15,6 +15,7 @@ pub fn all() -> Vec<Example> {
     vec![
         example("plan-a", plan_a()),
         example("footbridge", footbridge()),
+        example("aqueduct", aqueduct()),
         example("suspension", suspension()),
         example("viaduct", viaduct()),
         example("tunnel", tunnel()),
@@ -36,6 +37,25 @@ fn footbridge() -> Vec<u8> {
     for item in 0..10 {
         plan.put(item, u8::from(item >= 7));
     }
+    plan.end()
+}
+
+/// Three teams, 14 instruments of an aqueduct, in a term of 28 days: 0 to 6 measure strain, 7
+/// to 10 tilt, 11 to 13 water. In the week from day 7 to day 14 some are at calibration: the
+/// strain gauge 6 and the tilt meter 10 are on the shelf before it, the water gauges 12 and 13
+/// after it. A survey that logs anything takes all days. The arch is measured by the strain
+/// gauges from day 0 to day 7, and the piers from day 14 to day 28, on two mounts for tilt and
+/// two for water.
+fn aqueduct() -> Vec<u8> {
+    let mut plan = PlanWriter::start(14);
+    for (item, from, to) in [(6, 0, 7), (10, 0, 7), (12, 14, 28), (13, 14, 28)] {
+        plan.shelf(item, from, to);
+    }
+    survey(&mut plan, 0..14, 14);
+    ring(&mut plan, 0..7, 4, 1, 7);
+    plan.days(0, 7);
+    fitter(&mut plan, &[(7..11, 0b0011), (11..14, 0b1100)], 4);
+    plan.days(14, 28);
     plan.end()
 }
 

@@ -11,7 +11,7 @@ pub struct Family {
 }
 
 /// The families of the benchmark.
-pub const FAMILIES: [Family; 13] = [
+pub const FAMILIES: [Family; 14] = [
     Family {
         name: "dense loops, 6 joints",
         plan: |random, m, n| loops_on(random, m, n, 6),
@@ -63,6 +63,10 @@ pub const FAMILIES: [Family; 13] = [
     Family {
         name: "half the teams away",
         plan: half_away,
+    },
+    Family {
+        name: "with loan days",
+        plan: loan_days,
     },
 ];
 
@@ -233,6 +237,27 @@ fn half_away(random: &mut Random, instruments: usize, teams: usize) -> Vec<u8> {
             1 => spans(random, plan.loops(channels), instruments, 16),
             _ => fits(random, plan.mounts(channels), instruments),
         }
+    }
+    plan.end()
+}
+
+/// Teams of the three kinds in turn, channels never short, in a term of 14 days. Shelf days
+/// and teams' days lack a few at either end, so that a team can have about half of the
+/// instruments.
+fn loan_days(random: &mut Random, instruments: usize, teams: usize) -> Vec<u8> {
+    let mut plan = PlanWriter::start(instruments);
+    for item in 0..instruments {
+        let (from, to) = (random.below(3), random.between(12, 14));
+        plan.shelf(item, from as u16, to as u16);
+    }
+    for team in 0..teams {
+        match team % 3 {
+            0 => puts(random, plan.caps(255), instruments),
+            1 => spans(random, plan.loops(255), instruments, 16),
+            _ => fits(random, plan.mounts(255), instruments),
+        }
+        let (from, to) = (random.below(4), random.between(11, 14));
+        plan.days(from as u16, to as u16);
     }
     plan.end()
 }

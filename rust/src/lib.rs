@@ -6,7 +6,9 @@
 pub mod bits;
 pub mod brute;
 pub mod build;
+pub mod calendar;
 pub mod check;
+pub mod days;
 pub mod definition;
 pub mod examples;
 pub mod family;

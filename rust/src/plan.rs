@@ -1,6 +1,7 @@
 //! Reading a plan: commands of one byte with their operands.
 
 use crate::bits;
+use crate::days::{Days, Shelf};
 use crate::refusal::Refusal;
 
 /// The most teams a plan may have.
@@ -14,18 +15,23 @@ pub const JOINTS: usize = 64;
 /// The number of mounts a MOUNTS team can name.
 pub const MOUNTS: usize = 32;
 
-/// A whole plan: the number of instruments and the teams in file order.
+/// A whole plan: the number of instruments, their shelf days, and the teams in file order.
 #[derive(Clone, Debug, PartialEq, Eq)]
 pub struct Plan {
     pub instruments: usize,
+    pub shelf: Shelf,
     pub teams: Vec<Team>,
 }
 
-/// One team: its channels and its rule for independent sets.
+/// One team: its channels, its rule for independent sets and its loan days.
 #[derive(Clone, Debug, PartialEq, Eq)]
 pub struct Team {
     pub channels: u8,
     pub kind: Kind,
+    /// The days that its DAYS names.
+    pub days: Option<Days>,
+    /// The instruments whose shelf days hold the team's days, found at END.
+    pub usable: u64,
 }
 
 /// The three kinds of team.
@@ -80,6 +86,21 @@ impl Team {
     pub fn present(&self) -> bool {
         self.channels > 0
     }
+
+    /// The days of the team, named or not.
+    pub fn days(&self) -> Days {
+        self.days.unwrap_or_default()
+    }
+
+    /// DAYS: names the days of the team, once.
+    fn name_days(&mut self, operands: [u8; 4]) -> Result<(), u8> {
+        let days = Days::read(operands)?;
+        if self.days.is_some() {
+            return Err(6);
+        }
+        self.days = Some(days);
+        Ok(())
+    }
 }
 
 /// Reads a whole plan, or tells what is wrong with its first faulty command.
@@ -108,15 +129,20 @@ impl<'a> Reader<'a> {
     fn new(file: &'a [u8]) -> Self {
         let plan = Plan {
             instruments: 0,
+            shelf: Shelf::default(),
             teams: Vec::new(),
         };
         Reader { file, at: 0, plan }
     }
 
-    /// The plan, unless bytes follow END.
-    fn finish(self) -> Result<Plan, Refusal> {
+    /// The plan with each team's usable instruments, unless bytes follow END.
+    fn finish(mut self) -> Result<Plan, Refusal> {
         if self.at < self.file.len() {
             return Err(Refusal::new(9, self.at));
+        }
+        for team in &mut self.plan.teams {
+            let shelf = &self.plan.shelf;
+            team.usable = shelf.usable(self.plan.instruments, team.days());
         }
         Ok(self.plan)
     }
@@ -149,7 +175,8 @@ impl<'a> Reader<'a> {
             0x04 | 0x05 => matches!(open, Some(Kind::Caps(_))),
             0x06 => matches!(open, Some(Kind::Loops(_))),
             0x09 => matches!(open, Some(Kind::Mounts(_))),
-            0x07 => open.is_some(),
+            0x07 | 0x0b => open.is_some(),
+            0x0a => open.is_none(),
             _ => true,
         }
     }
@@ -169,6 +196,8 @@ impl<'a> Reader<'a> {
                 let mounts = u32::from_le_bytes([a, b, c, d]);
                 self.bipartite().fit(count, item, mounts)
             }
+            (0x0a, &[item, a, b, c, d]) => self.plan.shelf.name(count, item, [a, b, c, d]),
+            (0x0b, &[a, b, c, d]) => self.team().name_days([a, b, c, d]),
             _ => Ok(()),
         }
     }
@@ -187,30 +216,40 @@ impl<'a> Reader<'a> {
         if self.plan.teams.len() == MOST_TEAMS {
             return Err(7);
         }
-        self.plan.teams.push(Team { channels, kind });
+        self.plan.teams.push(Team {
+            channels,
+            kind,
+            days: None,
+            usable: 0,
+        });
         Ok(())
+    }
+
+    /// The open team.
+    fn team(&mut self) -> &mut Team {
+        self.plan.teams.last_mut().expect("the place was tested")
     }
 
     /// The classes of the open CAPS team.
     fn classes(&mut self) -> &mut Classes {
-        match self.plan.teams.last_mut().map(|team| &mut team.kind) {
-            Some(Kind::Caps(classes)) => classes,
+        match &mut self.team().kind {
+            Kind::Caps(classes) => classes,
             _ => unreachable!("the place was tested"),
         }
     }
 
     /// The graph of the open LOOPS team.
     fn graph(&mut self) -> &mut Graph {
-        match self.plan.teams.last_mut().map(|team| &mut team.kind) {
-            Some(Kind::Loops(graph)) => graph,
+        match &mut self.team().kind {
+            Kind::Loops(graph) => graph,
             _ => unreachable!("the place was tested"),
         }
     }
 
     /// The bipartite graph of the open MOUNTS team.
     fn bipartite(&mut self) -> &mut Bipartite {
-        match self.plan.teams.last_mut().map(|team| &mut team.kind) {
-            Some(Kind::Mounts(bipartite)) => bipartite,
+        match &mut self.team().kind {
+            Kind::Mounts(bipartite) => bipartite,
             _ => unreachable!("the place was tested"),
         }
     }
@@ -223,9 +262,22 @@ pub fn operand_count(byte: u8) -> Option<usize> {
         0x02 | 0x03 | 0x08 => Some(1),
         0x01 | 0x04 | 0x05 => Some(2),
         0x06 => Some(3),
-        0x09 => Some(5),
+        0x0b => Some(4),
+        0x09 | 0x0a => Some(5),
         _ => None,
     }
+}
+
+/// Cuts a valid plan into its commands.
+pub fn commands(plan: &[u8]) -> Vec<Vec<u8>> {
+    let mut rest = plan;
+    let mut out = Vec::new();
+    while let Some(&byte) = rest.first() {
+        let length = 1 + operand_count(byte).expect("a command");
+        out.push(rest[..length].to_vec());
+        rest = &rest[length..];
+    }
+    out
 }
 
 impl Default for Classes {

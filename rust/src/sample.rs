@@ -1,20 +1,30 @@
 //! Random plans with teams of every sort.
 
 use crate::bits;
+use crate::calendar::with_days;
 use crate::random::Random;
 use crate::writer::PlanWriter;
 
 /// The bytes that open a CAPS, a LOOPS and a MOUNTS team.
 const ALL_KINDS: [u8; 3] = [0x02, 0x03, 0x08];
 
-/// A random plan of this size, its teams of every kind and sort, present and away.
+/// A random plan of this size, its teams of every kind and sort, present and away. Half of
+/// the plans have loan days.
 pub fn any_plan(random: &mut Random, instruments: usize, teams: usize) -> Vec<u8> {
-    plan_with_leave(random, instruments, teams, &ALL_KINDS)
+    let plan = plan_with_leave(random, instruments, teams, &ALL_KINDS);
+    half_with_days(random, plan)
 }
 
-/// A random plan with MOUNTS teams, present and away.
+/// A random plan with MOUNTS teams, present and away. Half of the plans have loan days.
 pub fn mounts_plan(random: &mut Random, instruments: usize, teams: usize) -> Vec<u8> {
-    plan_with_leave(random, instruments, teams, &[0x08])
+    let plan = plan_with_leave(random, instruments, teams, &[0x08]);
+    half_with_days(random, plan)
+}
+
+/// A random plan with loan days, its teams of every kind and sort, present and away.
+pub fn days_plan(random: &mut Random, instruments: usize, teams: usize) -> Vec<u8> {
+    let plan = plan_with_leave(random, instruments, teams, &ALL_KINDS);
+    with_days(random, &plan)
 }
 
 /// A random plan with teams of every kind for the benchmark, few of them away.
@@ -25,6 +35,15 @@ pub fn all_kinds_plan(random: &mut Random, instruments: usize, teams: usize) -> 
 /// A random plan with CAPS and LOOPS teams for the benchmark, few of them away.
 pub fn caps_and_loops_plan(random: &mut Random, instruments: usize, teams: usize) -> Vec<u8> {
     plan_of(random, instruments, teams, &[0x02, 0x03], |_, drawn| drawn)
+}
+
+/// Gives half of the plans loan days.
+fn half_with_days(random: &mut Random, plan: Vec<u8>) -> Vec<u8> {
+    if random.chance(1, 2) {
+        with_days(random, &plan)
+    } else {
+        plan
+    }
 }
 
 /// A random plan whose teams are opened by these bytes. In half of the plans all teams are

@@ -21,9 +21,11 @@ pub fn worth_in(plan: &Plan, team: usize, set: u64) -> u32 {
 }
 
 impl Team {
-    /// Worth: the size of the largest independent part of `set`.
+    /// Worth: the size of the largest independent part of `set`, in which every instrument
+    /// is usable.
     pub fn rank(&self, set: u64) -> u32 {
         let channels = u32::from(self.channels);
+        let set = set & self.usable;
         match &self.kind {
             Kind::Caps(classes) => classes.rank(set).min(channels),
             Kind::Loops(graph) => graph.rank(set, channels),
@@ -41,16 +43,21 @@ impl Team {
         if bits::size(bundle) >= u32::from(self.channels) {
             return 0;
         }
-        match &self.kind {
+        let gains = match &self.kind {
             Kind::Caps(classes) => classes.gains(bundle),
             Kind::Loops(graph) => graph.gains(bundle),
             Kind::Mounts(bipartite) => bipartite.gains(bundle),
-        }
+        };
+        gains & self.usable
     }
 
     /// Channels aside: the members of an independent bundle of which one must leave
     /// before `item` joins (its fundamental circuit), or nothing when it joins freely.
+    /// For an instrument that is not usable no member makes room.
     pub fn circuit(&self, bundle: u64, item: usize) -> Option<u64> {
+        if !bits::has(self.usable, item) {
+            return Some(0);
+        }
         match &self.kind {
             Kind::Caps(classes) => classes.circuit(bundle, item),
             Kind::Loops(graph) => graph.circuit(bundle, item),

@@ -45,6 +45,21 @@ impl PlanWriter {
         self.add(&[0x09, item as u8]).add(&mounts.to_le_bytes())
     }
 
+    /// SHELF: names the shelf days of an instrument.
+    pub fn shelf(&mut self, item: usize, from: u16, to: u16) -> &mut Self {
+        self.add(&[0x0a, item as u8]).day(from).day(to)
+    }
+
+    /// DAYS: names the days of the open team.
+    pub fn days(&mut self, from: u16, to: u16) -> &mut Self {
+        self.add(&[0x0b]).day(from).day(to)
+    }
+
+    /// A day in two bytes.
+    fn day(&mut self, day: u16) -> &mut Self {
+        self.add(&day.to_le_bytes())
+    }
+
     /// END: the finished file.
     pub fn end(&mut self) -> Vec<u8> {
         self.add(&[0x07]);

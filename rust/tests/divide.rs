@@ -2,6 +2,7 @@
 
 mod common;
 
+use common::days::{plans_of_one, DAYS_FAULTS, TERM, WITHIN};
 use common::*;
 use pool::build::contents;
 use pool::check::{answer as check, layout_of};
@@ -122,6 +123,19 @@ fn teams_away() {
 }
 
 #[test]
+fn loan_days() {
+    let Some(program) = &*DIVIDE else { return };
+    for (shelf, days, there) in WITHIN {
+        for file in plans_of_one(shelf, days) {
+            let total = format!("TOTAL {}\n", u8::from(there));
+            let output = printed(program, &file);
+            assert!(output.starts_with(&total), "{output}{file:x?}");
+        }
+    }
+    assert_eq!(right_output(program, &hex(TERM)), 0);
+}
+
+#[test]
 fn refusals_of_each_number() {
     let Some(program) = &*DIVIDE else { return };
     let faults = [
@@ -129,17 +143,18 @@ fn refusals_of_each_number() {
         ("02 01 07", "REFUSED 1 0\n"),
         ("01 01", "REFUSED 2 0\n"),
         ("01 01 02 03 02", "REFUSED 2 5\n"),
-        ("01 01 02 02 09 0A 07", "REFUSED 3 5\n"),
+        ("01 01 02 02 09 0C 07", "REFUSED 3 5\n"),
         ("01 01 02 07", "REFUSED 4 3\n"),
         ("01 01 41", "REFUSED 5 0\n"),
         ("01 01 02 02 09 05 01 00 05 01 00 07", "REFUSED 6 8\n"),
         ("01 01 02 03 09 06 00 01 01 07", "REFUSED 8 5\n"),
         ("01 01 02 03 09 07 07", "REFUSED 9 6\n"),
+        ("01 01 02 03 09 0B 07 00 07 00 07", "REFUSED 17 5\n"),
     ];
     for (bytes, line) in faults {
         assert_eq!(printed(program, &hex(bytes)), line, "{bytes}");
     }
-    for (bytes, number, place) in MOUNTS_FAULTS {
+    for (bytes, number, place) in MOUNTS_FAULTS.into_iter().chain(DAYS_FAULTS) {
         let line = format!("REFUSED {number} {place}\n");
         assert_eq!(printed(program, &hex(bytes)), line, "{bytes}");
     }
@@ -161,9 +176,9 @@ fn long_input() {
     }
     let longest = longest_plan().end();
     assert_eq!(right_output(program, &longest), 0);
-    for count in [1, 3_555, 3_556, 3_557, 70_000] {
+    for count in [1, 3_111, 3_112, 3_113, 70_000] {
         let longer = [&longest[..], &vec![0x09; count]].concat();
-        assert_eq!(printed(program, &longer), "REFUSED 9 4636\n");
+        assert_eq!(printed(program, &longer), "REFUSED 9 5080\n");
     }
 }
 
@@ -203,5 +218,5 @@ fn damaged_plans() {
         }
         last = file;
     }
-    tally.seen(0..=9);
+    tally.seen((0..=9).chain([17]));
 }

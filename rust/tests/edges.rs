@@ -1,7 +1,8 @@
-//! The edges of document 01 and of note 1, case by case.
+//! The edges of document 01, of note 1 and of the longest plan, case by case.
 
 mod common;
 
+use common::days::without_days;
 use common::{hex, longest_plan, own_sheet, read, MOUNTS_FAULTS};
 use pool::build::{answer as build, contents, share_proof};
 use pool::check::{answer as check, page};
@@ -57,8 +58,8 @@ fn three_spans_in_a_ring() {
         plan.loops(channels).span(0, 1, 2).span(1, 2, 3);
         let file = plan.span(2, 1, 3).end();
         assert_eq!(worth(&file, 0, 0b111), Ok(expected));
-        let team = &read(&file).teams[0];
-        assert_eq!(definition::worth(team, 0b111), expected);
+        let plan = read(&file);
+        assert_eq!(definition::worth(&plan, &plan.teams[0], 0b111), expected);
     }
 }
 
@@ -184,21 +185,33 @@ fn accepted_edges() {
 #[test]
 fn the_longest_plan() {
     let file = longest_plan().end();
-    assert_eq!(file.len(), 4636);
-    assert_eq!(own_sheet(&file).len(), 2642);
-    assert_eq!(refusal(&file[..4635]), Refusal::new(2, 4635));
-    for byte in [0x00, 0x07, 0x09] {
+    assert_eq!(file.len(), 3 + 64 * 6 + 12 * (2 + 64 * 6 + 5) + 1);
+    assert_eq!(file.len(), 5080);
+    let sheet = own_sheet(&file);
+    assert_eq!(sheet.len(), 2642);
+    assert_eq!(check(&file, &sheet), 0);
+    assert_eq!(refusal(&file[..5079]), Refusal::new(2, 5079));
+    for byte in [0x00, 0x07, 0x09, 0x0a, 0x0b, 0x0c] {
         let longer = [&file[..], &[byte]].concat();
-        assert_eq!(refusal(&longer), Refusal::new(9, 4636));
+        assert_eq!(refusal(&longer), Refusal::new(9, 5080));
     }
+}
+
+#[test]
+fn nothing_can_be_added_to_the_longest_plan() {
+    let add = |bytes: &str| refusal(&longest_plan().add(&hex(bytes)).end());
+    assert_eq!(add("0A 00 00 00 01 00"), Refusal::new(4, 5079));
+    assert_eq!(add("0B 00 00 01 00"), Refusal::new(6, 5079));
+    assert_eq!(add("09 00 01 00 00 00"), Refusal::new(6, 5079));
+    assert_eq!(add("08 01"), Refusal::new(7, 5079));
 }
 
 #[test]
 fn a_thirteenth_team() {
     for opening in [0x02, 0x03, 0x08] {
         let more = longest_plan().add(&[opening, 1]).end();
-        assert_eq!(refusal(&more), Refusal::new(7, 4635));
-        assert_eq!(refusal(&more[..4636]), Refusal::new(2, 4635));
+        assert_eq!(refusal(&more), Refusal::new(7, 5079));
+        assert_eq!(refusal(&more[..5080]), Refusal::new(2, 5079));
         let mut teams = PlanWriter::start(0);
         for _ in 0..13 {
             teams.add(&[opening, 1]);
@@ -208,7 +221,14 @@ fn a_thirteenth_team() {
 }
 
 #[test]
-fn the_longest_plan_without_mounts() {
+fn the_longest_plan_without_days() {
+    let file = without_days(&longest_plan().end());
+    assert_eq!(file.len(), 4636);
+    assert_eq!(check(&file, &own_sheet(&file)), 0);
+}
+
+#[test]
+fn the_longest_plan_without_mounts_and_days() {
     let mut plan = PlanWriter::start(64);
     for _ in 0..12 {
         plan.loops(255);
@@ -283,8 +303,9 @@ fn mounts_teams(teams: usize, channels: u8, masks: &[u32]) -> Vec<u8> {
 fn mounts_worth(channels: u8, masks: &[u32], set: u64) -> u32 {
     let file = mounts_teams(1, channels, masks);
     let found = worth(&file, 0, set).expect("a valid plan");
-    let team = &read(&file).teams[0];
-    assert_eq!(found, definition::worth(team, set & read(&file).all()));
+    let plan = read(&file);
+    let defined = definition::worth(&plan, &plan.teams[0], set & plan.all());
+    assert_eq!(found, defined);
     found
 }
 

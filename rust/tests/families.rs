@@ -3,7 +3,8 @@
 mod common;
 
 use common::read;
-use pool::family::FAMILIES;
+use pool::bits;
+use pool::family::{Family, FAMILIES};
 use pool::random::Random;
 
 /// The FNV-1a sum of a family's plans, ten for each of four sizes.
@@ -36,6 +37,7 @@ fn families_keep_their_places_and_plans() {
         ("mounts", 0x8a0d_1517_9e71_6475),
         ("all three kinds", 0x8313_db82_fe1b_6681),
         ("half the teams away", 0xdf72_e5ae_c945_ee1b),
+        ("with loan days", 0x4c46_370d_8a57_1adc),
     ];
     assert_eq!(FAMILIES.len(), expected.len());
     for (family, (name, value)) in expected.into_iter().enumerate() {
@@ -44,12 +46,36 @@ fn families_keep_their_places_and_plans() {
     }
 }
 
+/// The family of this name.
+fn named(name: &str) -> &'static Family {
+    let found = FAMILIES.iter().find(|family| family.name == name);
+    found.expect("a family")
+}
+
 #[test]
 fn half_of_the_teams_are_away() {
-    let family = FAMILIES.last().expect("a family");
+    let family = named("half the teams away");
     let mut random = Random::new(601);
     for n in 1..=12 {
         let plan = read(&(family.plan)(&mut random, 64, n));
         assert_eq!(plan.present(), n.div_ceil(2));
     }
+}
+
+#[test]
+fn teams_can_have_about_half_of_the_instruments() {
+    let family = named("with loan days");
+    let mut random = Random::new(602);
+    let mut usable = 0;
+    for _ in 0..50 {
+        let plan = read(&(family.plan)(&mut random, 64, 12));
+        assert!(plan.teams.iter().all(|team| team.days.is_some()));
+        let sizes = plan.teams.iter().map(|team| bits::size(team.usable));
+        usable += sizes.sum::<u32>();
+    }
+    let all = 50 * 12 * 64;
+    assert!(
+        usable > all * 2 / 5 && usable < all * 3 / 5,
+        "{usable} of {all}"
+    );
 }

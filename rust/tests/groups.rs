@@ -2,11 +2,11 @@
 
 mod common;
 
-use common::cases;
 use common::nets::{
     any_net, chosen_nets, circle, complete, path, rename, rounds, some_net, star, two_groups,
     Groups, Net,
 };
+use common::{cases, read};
 use pool::bits;
 use pool::plan::JOINTS;
 use pool::random::Random;
@@ -139,12 +139,13 @@ fn every_order_accepts_as_many_as_the_definition() {
     let mut random = Random::new(804);
     for _ in 0..cases() / 10 {
         let net = some_net(&mut random, 7);
-        let team = net.team(255);
-        let table = brute::worth_table(&team, net.size());
+        let plan = read(&net.plan(255, 1));
+        let team = &plan.teams[0];
+        let table = brute::worth_table(&plan, team);
         for set in bits::subsets(net.all()) {
             let order = shuffled(&mut random, set);
             let accepted = accept(&net, &order).0;
-            assert!(definition::independent(&team, accepted), "{net:?}");
+            assert!(definition::independent(&plan, team, accepted), "{net:?}");
             let most = table[set as usize];
             assert_eq!(bits::size(accepted), most, "{net:?} {order:?}");
             assert_eq!(team.rank(set), most, "{net:?} {set:b}");
@@ -186,8 +187,9 @@ fn gains_of_small_nets_are_the_definition() {
     let mut random = Random::new(807);
     for _ in 0..cases() / 10 {
         let net = some_net(&mut random, 6);
-        let team = net.team(255);
-        let independent = |set: &u64| definition::independent(&team, *set);
+        let plan = read(&net.plan(255, 1));
+        let team = &plan.teams[0];
+        let independent = |set: &u64| definition::independent(&plan, team, *set);
         for bundle in bits::subsets(net.all()).filter(independent) {
             let joins = |item: &usize| independent(&(bundle | bits::one(*item)));
             let outside = bits::members(net.all() & !bundle);

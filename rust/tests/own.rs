@@ -29,12 +29,12 @@ fn worth_is_the_definition() {
         let file = some_plan(&mut random, 6, 2);
         let plan = read(&file);
         for team in &plan.teams {
-            let table = brute::worth_table(team, plan.instruments);
+            let table = brute::worth_table(&plan, team);
             for set in bits::subsets(plan.all()) {
                 assert_eq!(team.rank(set), table[set as usize], "{file:x?} {set:b}");
             }
             let some = random.word() & plan.all();
-            assert_eq!(team.rank(some), definition::worth(team, some));
+            assert_eq!(team.rank(some), definition::worth(&plan, team, some));
         }
     }
 }
@@ -45,8 +45,9 @@ fn matchings_are_the_search() {
     for _ in 0..cases() / 10 {
         let m = random.between(6, 9);
         let file = mounts_plan(&mut random, m, 1);
-        let team = &read(&file).teams[0];
-        let table = brute::worth_table(team, m);
+        let plan = read(&file);
+        let team = &plan.teams[0];
+        let table = brute::worth_table(&plan, team);
         for set in bits::subsets(bits::first(m)) {
             assert_eq!(team.rank(set), table[set as usize], "{file:x?} {set:b}");
         }
@@ -61,22 +62,23 @@ fn gains_and_circuits_are_the_definition() {
         let plan = read(&file);
         let team = &plan.teams[0];
         let bundle = random.word() & random.word() & plan.all();
-        if !definition::independent(team, bundle) {
+        let independent = |set| definition::independent(&plan, team, set);
+        if !independent(bundle) {
             continue;
         }
         let gains = team.gains(bundle);
         for item in bits::members(plan.all() & !bundle) {
             let with = bundle | bits::one(item);
-            let free = definition::independent(team, with);
+            let free = independent(with);
             assert_eq!(bits::has(gains, item), free, "{file:x?} {bundle:b} {item}");
             let room = bits::size(bundle) < u32::from(team.channels);
             let leaving = team.circuit(bundle, item);
             assert!(!room || leaving.is_none() == free);
             for out in bits::members(leaving.unwrap_or(0)) {
-                assert!(definition::independent(team, with & !bits::one(out)));
+                assert!(independent(with & !bits::one(out)));
             }
             for out in bits::members(bundle & !leaving.unwrap_or(bundle)) {
-                assert!(!definition::independent(team, with & !bits::one(out)));
+                assert!(!independent(with & !bits::one(out)));
             }
         }
     }
@@ -89,7 +91,7 @@ fn the_two_laws_hold() {
         let file = some_plan(&mut random, 9, 1);
         let plan = read(&file);
         let team = &plan.teams[0];
-        let independent = |set| definition::independent(team, set);
+        let independent = |set| definition::independent(&plan, team, set);
         let (a, b) = (random.word() & plan.all(), random.word() & plan.all());
         assert!(independent(0));
         assert!(!independent(a) || independent(a & b));

@@ -12,7 +12,7 @@ use pool::random::Random;
 use pool::refusal::Refusal;
 use pool::sample::{any_plan, mounts_plan};
 use pool::writer::{plan_a, PlanWriter};
-use pool::{bits, definition, ffi, listing};
+use pool::{bits, ffi, listing};
 
 /// The most bytes of the listing of an accepted sheet.
 const MOST_LISTED: usize = 512;
@@ -76,14 +76,14 @@ fn mounts_plans_of_every_size() {
 fn the_longest_plan() {
     let mut tally = Tally::default();
     let file = longest_plan().end();
-    assert_eq!(file.len(), 4636);
+    assert_eq!(file.len(), 5080);
     same_sheets(&file, 1, 17);
-    for at in 4600..4636 {
+    for at in 5040..5080 {
         same_reading(&file[..at], &mut tally);
     }
-    for count in [1, 3_555, 3_556, 3_557, 70_000] {
+    for count in [1, 3_111, 3_112, 3_113, 70_000] {
         let longer = [&file[..], &vec![0x09; count]].concat();
-        assert_eq!(same_verdict(&longer, &[]), Refusal::new(9, 4636).code());
+        assert_eq!(same_verdict(&longer, &[]), Refusal::new(9, 5080).code());
         same_reading(&longer, &mut tally);
     }
     same_reading(&longest_plan().mounts(1).end(), &mut tally);
@@ -96,14 +96,7 @@ fn every_bundle_of_small_mounts_teams() {
     let mut tally = Tally::default();
     for _ in 0..cases() / 40 {
         let m = random.below(9);
-        let file = mounts_plan(&mut random, m, 1);
-        let plan = read(&file);
-        for bundle in bits::subsets(plan.all()) {
-            let verdict = bundle_verdict(&file, bundle);
-            let free = definition::independent(&plan.teams[0], bundle);
-            assert_eq!(verdict >> 16 != 13, free, "{bundle:b} by {file:x?}");
-            tally.count(verdict);
-        }
+        every_bundle(&mounts_plan(&mut random, m, 1), &mut tally);
     }
     tally.seen([0, 13, 14].into_iter());
 }
@@ -115,20 +108,7 @@ fn every_bounding_set_of_small_mounts_teams() {
     for _ in 0..cases() / 40 {
         let (m, n) = (random.below(9), random.between(1, 3));
         let file = mounts_plan(&mut random, m, n);
-        let plan = read(&file);
-        let found = contents(&plan);
-        for set in bits::subsets(plan.all()) {
-            let mut other = contents(&plan);
-            other.bound = set;
-            let worths = plan.teams.iter().map(|team| definition::worth(team, set));
-            let sum = bits::size(plan.all() & !set) + worths.sum::<u32>();
-            let verdict = same_verdict(&file, &other.bytes(m));
-            assert_eq!(verdict >> 16 != 14, sum == found.total(), "{file:x?}");
-            tally.count(verdict);
-            other.bound = found.bound;
-            other.shares[random.below(n)].set = set;
-            tally.count(same_verdict(&file, &other.bytes(m)));
-        }
+        every_bounding_set(&mut random, &file, &mut tally);
     }
     tally.seen([0, 14, 15].into_iter());
 }
@@ -159,14 +139,6 @@ fn growing_bundles_of_large_mounts_teams() {
     tally.seen([0, 13, 14].into_iter());
 }
 
-/// Any bytes as a plan: Build without a buffer and Check without a sheet tell all
-/// of Read's refusals.
-fn same_reading(file: &[u8], tally: &mut Tally) {
-    assert!(proved_build(file, 0, 3).is_none());
-    let verdict = same_verdict(file, &[]);
-    tally.count(verdict);
-}
-
 #[test]
 fn damaged_plans() {
     let mut random = Random::new(105);
@@ -180,7 +152,7 @@ fn damaged_plans() {
         same_reading(&loose_commands(&mut random), &mut tally);
         last = file;
     }
-    tally.seen((1..=9).chain([11]));
+    tally.seen((1..=9).chain([11, 17]));
 }
 
 #[test]
@@ -218,14 +190,7 @@ fn every_byte_of_small_plans() {
     files.extend((0..12).map(|_| some_plan(&mut random, 5, 4)));
     files.extend((1..4).map(|n| mounts_plan(&mut random, 4, n)));
     for file in files {
-        for at in 0..file.len() {
-            same_reading(&file[..at], &mut tally);
-            for value in 0..=255 {
-                let mut other = file.clone();
-                other[at] = value;
-                same_reading(&other, &mut tally);
-            }
-        }
+        every_byte_of_plan(&file, &mut tally);
     }
 }
 
@@ -501,7 +466,7 @@ fn listings_by_damaged_plans() {
         }
         last = file;
     }
-    tally.seen(0..=11);
+    tally.seen((0..=11).chain([17]));
 }
 
 #[test]

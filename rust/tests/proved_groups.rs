@@ -5,15 +5,15 @@ mod common;
 
 use common::nets::{chosen_nets, loops_plan, some_net, Net};
 use common::proved::{
-    bundle_verdict, damaged_bytes_of, damaged_fields_of, every_byte, proved_build, same_sheets,
-    same_verdict,
+    bundle_verdict, damaged_bytes_of, damaged_fields_of, every_bounding_set, every_bundle,
+    every_byte, proved_build, same_sheets, same_verdict,
 };
 use common::*;
 use pool::build::contents;
 use pool::check::layout_of;
 use pool::random::Random;
 use pool::writer::PlanWriter;
-use pool::{bits, brute, definition};
+use pool::{bits, brute};
 
 /// The total that the proved Build states for one team on a net.
 fn proved_total(net: &Net, channels: u8) -> u32 {
@@ -141,14 +141,7 @@ fn every_bundle_of_small_nets() {
     let mut random = Random::new(827);
     let mut tally = Tally::default();
     for _ in 0..cases() / 40 {
-        let net = some_net(&mut random, 8);
-        let (team, file) = (net.team(255), net.plan(255, 1));
-        for bundle in bits::subsets(net.all()) {
-            let verdict = bundle_verdict(&file, bundle);
-            let free = definition::independent(&team, bundle);
-            assert_eq!(verdict >> 16 != 13, free, "{bundle:b} {net:?}");
-            tally.count(verdict);
-        }
+        every_bundle(&some_net(&mut random, 8).plan(255, 1), &mut tally);
     }
     tally.seen([0, 13, 14].into_iter());
 }
@@ -159,17 +152,7 @@ fn every_bounding_set_of_small_nets() {
     let mut tally = Tally::default();
     for _ in 0..cases() / 40 {
         let file = some_loops_plan(&mut random, 7, 3);
-        let plan = read(&file);
-        let total = contents(&plan).total();
-        let mut other = contents(&plan);
-        for set in bits::subsets(plan.all()) {
-            other.bound = set;
-            let worths = plan.teams.iter().map(|team| definition::worth(team, set));
-            let sum = bits::size(plan.all() & !set) + worths.sum::<u32>();
-            let verdict = same_verdict(&file, &other.bytes(plan.instruments));
-            assert_eq!(verdict >> 16 != 14, sum == total, "{set:b} {file:x?}");
-            tally.count(verdict);
-        }
+        every_bounding_set(&mut random, &file, &mut tally);
     }
     tally.seen([0, 14].into_iter());
 }

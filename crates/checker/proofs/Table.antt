@@ -12,7 +12,7 @@ use Rattle.sets.specs.Bits.{bit}
 use Rattle.plan.specs.declared.Reading.{Reading}
 use Rattle.plan.specs.Read.{readPlan}
 use Rattle.plan.specs.Teams.{teamMatroid, present}
-use Rattle.plan.proofs.Table.{worthIn, alike, worth-alike, appendixD, appendixD-sheet, appendixD-refusal, appendixD-m, appendixD-n, appendixD-present, appendixD-0-none, appendixD-0-rest, appendixD-0-bundle, appendixD-0-part-0, appendixD-0-part-1, appendixD-1-none, appendixD-1-bundle, appendixD-1-part-0, appendixD-1-part-1}
+use Rattle.plan.proofs.Table.{worthIn, alike, worth-alike, appendixD, appendixD-sheet, appendixD-read as r, appendixD-is as is-r, appendixD-present, appendixD-0-none, appendixD-0-rest, appendixD-0-bundle, appendixD-0-part-0, appendixD-0-part-1, appendixD-1-none, appendixD-1-bundle, appendixD-1-part-0, appendixD-1-part-1}
 use Rattle.sheet.specs.Layout.{lengthOf, shareStart}
 use Rattle.sheet.specs.Fields.{numberAt, holderAt, partAt}
 use Rattle.sheet.specs.Form.{set, form, firstFault}
@@ -24,17 +24,6 @@ use Rattle.checker.proofs.Lowest.{lowest-none}
 use Rattle.checker.proofs.Bundles.{independent-yes}
 use Rattle.checker.proofs.Verdicts.{weigh-16, judge-rest}
 
--- the reading, with its numbers written out
-abbrev r : Reading
-r = record { refusal = 0; place = readPlan appendixD .place; m = 6; n = 2; teams = readPlan appendixD .teams }
-
-is-r : readPlan appendixD ≡ r
-is-r =
-    let plan = readPlan appendixD in
-    ap (λ (x : ℕ). record { refusal = x; place = plan .place; m = plan .m; n = plan .n; teams = plan .teams }) appendixD-refusal
-    ∙ ap (λ (x : ℕ). record { refusal = 0; place = plan .place; m = x; n = plan .n; teams = plan .teams }) appendixD-m
-    ∙ ap (λ (x : ℕ). record { refusal = 0; place = plan .place; m = 6; n = x; teams = plan .teams }) appendixD-n
-
 -- what a word is worth, and a set with the same members below 6
 worth-word : (t word w : ℕ) → worthIn appendixD t word ≡ w → worth (teamMatroid r t) (bit word) ≡ w
 worth-word t word w = subst (λ (x : Reading). worth (teamMatroid x t) (bit word) ≡ w) is-r
@@ -42,7 +31,7 @@ worth-word t word w = subst (λ (x : Reading). worth (teamMatroid x t) (bit word
 worth-set : (t word w : ℕ) (S : Set) → worthIn appendixD t word ≡ w → T (alike 6 S (bit word)) → worth (teamMatroid r t) S ≡ w
 worth-set t word w S e h =
     subst (λ (x : Reading). worth (teamMatroid x t) S ≡ w) is-r
-    (worth-alike appendixD t word w S e (subst⁻¹ (λ (m : ℕ). T (alike m S (bit word))) appendixD-m h))
+    (worth-alike appendixD t word w S e (subst⁻¹ (λ (m : ℕ). T (alike m S (bit word))) (ap (λ (x : Reading). x .m) is-r) h))
 
 -- what holds of each of two teams
 both : (P : ℕ → Type 0) → P 0 → P 1 → (t : ℕ) → t < 2 → P t

@@ -9,7 +9,7 @@ use lib.Dec.{eqb, leb}
 use lib.ListN.{length, getD}
 use borrow.Author.Tests.{leb-true, eqb-false}
 use Rattle.command.specs.declared.Command.{Command}
-use Rattle.command.specs.declared.Command.the-variants.{Missing, Unknown, Short, Start, Caps, Loops, Mounts, Class, Put, Span, Fit, End}
+use Rattle.command.specs.declared.Command.the-variants.{Missing, Unknown, Short, Start, Caps, Loops, Mounts, Class, Put, Span, Fit, Shelf, Days, End}
 use Rattle.command.specs.declared.State.{State}
 use Rattle.team.specs.declared.Team.{Team}
 use Rattle.command.specs.Command.{widthOf, commandBy, commandAt, bytesOf}
@@ -27,7 +27,9 @@ length-command file at (suc (suc (suc (suc (suc (suc zero)))))) d = refl
 length-command file at (suc (suc (suc (suc (suc (suc (suc zero))))))) d = refl
 length-command file at (suc (suc (suc (suc (suc (suc (suc (suc zero)))))))) d = refl
 length-command file at (suc (suc (suc (suc (suc (suc (suc (suc (suc zero))))))))) d = refl
-length-command file at (suc (suc (suc (suc (suc (suc (suc (suc (suc (suc k)))))))))) d = absurd (d refl)
+length-command file at (suc (suc (suc (suc (suc (suc (suc (suc (suc (suc zero)))))))))) d = refl
+length-command file at (suc (suc (suc (suc (suc (suc (suc (suc (suc (suc (suc zero))))))))))) d = refl
+length-command file at (suc (suc (suc (suc (suc (suc (suc (suc (suc (suc (suc (suc k)))))))))))) d = absurd (d refl)
 
 -- a command that stands whole at an offset
 pub record Whole (file : List ℕ) (at : ℕ) (command : Command) : Type 0 where
@@ -77,6 +79,8 @@ breaks at s team (Class class cap) z e = omega arith
 breaks at s team (Put instrument class) z e = omega arith
 breaks at s team (Span instrument a b) z e = omega arith
 breaks at s team (Fit instrument a b c d) z e = omega arith
+breaks at s team (Shelf instrument a b c d) z e = omega arith
+breaks at s team (Days a b c d) z e = omega arith
 breaks at s team End z e = omega arith
 
 -- a command that breaks no rule stands whole

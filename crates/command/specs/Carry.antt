@@ -1,14 +1,15 @@
 -- What a command that breaks no rule changes.
-use Prim.Native.Nat.{ℕ, _+_, _-_}
-use mathlib.Core.Bool.{true, false, cond}
-use mathlib.Core.List.{List}
-use lib.Dec.{ltb}
+use Prim.Native.Nat.{ℕ, _+_}
+use mathlib.Core.Bool.{true, false}
+use mathlib.Core.List.{List, [], _∷_}
 use lib.ListN.{getD, set, replicate}
 use Rattle.command.specs.declared.Command.{Command}
-use Rattle.command.specs.declared.Command.the-variants.{Missing, Unknown, Short, Start, Caps, Loops, Mounts, Class, Put, Span, Fit, End}
+use Rattle.command.specs.declared.Command.the-variants.{Missing, Unknown, Short, Start, Caps, Loops, Mounts, Class, Put, Span, Fit, Shelf, Days, End}
 use Rattle.command.specs.declared.State.{State}
 use Rattle.team.specs.declared.Team.{Team}
 use Rattle.team.specs.Team.{capsKind, loopsKind, mountsKind, openedTeam, blankTeam}
+use Rattle.days.specs.declared.Days.{Days as LoanDays}
+use Rattle.days.specs.Days.{given}
 
 -- "A class with no CLASS has cap 0."
 abbrev pub openedCaps : (channels : ℕ) → Team
@@ -33,17 +34,18 @@ namedTeam t instrument command a b c d = record {
   second = set (t .second) instrument b;
   third = set (t .third) instrument c;
   fourth = set (t .fourth) instrument d;
+  days = t .days;
 }
 
 -- nothing has been read
 abbrev pub start : State
 start = record { m = 0; n = 0; capped = replicate 16 false }
 
--- the team opened last, and a blank one before the first
+-- The open row, where row 0 is the pool's, in which SHELFs name the instruments, and row n is that of the team opened n-th.
 abbrev pub openTeam : List Team → ℕ → Team
-openTeam teams n = cond (ltb 0 n) (getD teams (n - 1) blankTeam) blankTeam
+openTeam rows n = getD rows n blankTeam
 
--- the open team after a command
+-- the open row after a command
 unfoldable pub changedTeam : Team → Command → Team
 changedTeam t Missing = t
 changedTeam t Unknown = t
@@ -61,10 +63,23 @@ changedTeam t (Class class cap) = record {
   second = t .second;
   third = t .third;
   fourth = t .fourth;
+  days = t .days;
 }
 changedTeam t (Put instrument class) = namedTeam t instrument 5 class 255 255 255
 changedTeam t (Span instrument a b) = namedTeam t instrument 6 a b 255 255
 changedTeam t (Fit instrument a b c d) = namedTeam t instrument 9 a b c d
+changedTeam t (Shelf instrument a b c d) = namedTeam t instrument 10 a b c d
+changedTeam t (Days a b c d) = record {
+  kind = t .kind;
+  channels = t .channels;
+  cap = t .cap;
+  named = t .named;
+  first = t .first;
+  second = t .second;
+  third = t .third;
+  fourth = t .fourth;
+  days = 11 ∷ a ∷ b ∷ c ∷ d ∷ [];
+}
 changedTeam t End = t
 
 -- what else changes: START says m, CAPS, LOOPS and MOUNTS open a team with no class capped, CLASS caps a class
@@ -80,4 +95,14 @@ changedState s (Class class cap) = record { m = s .m; n = s .n; capped = set (s 
 changedState s (Put instrument class) = s
 changedState s (Span instrument a b) = s
 changedState s (Fit instrument a b c d) = s
+changedState s (Shelf instrument a b c d) = s
+changedState s (Days a b c d) = s
 changedState s End = s
+
+-- the days of a team, by its DAYS
+abbrev pub daysOf : Team → LoanDays
+daysOf t = given (getD (t .days) 0 255) (getD (t .days) 1 255) (getD (t .days) 2 255) (getD (t .days) 3 255) (getD (t .days) 4 255)
+
+-- the shelf days of an instrument, by the pool's row
+abbrev pub shelfOf : Team → ℕ → LoanDays
+shelfOf pool i = given (getD (pool .named) i 255) (getD (pool .first) i 255) (getD (pool .second) i 255) (getD (pool .third) i 255) (getD (pool .fourth) i 255)

@@ -1,17 +1,18 @@
--- Which rule a command breaks (document 01, "Read"). "Within a command the order is": 3, 2, 4, 7, 5, 8, 6.
+-- Which rule a command breaks (document 01, "Read"; document 02, notes 1 and 4). "Within a command the order is": 3, 2, 4, 7, 5, 17, 8, 6.
 use Prim.Native.Nat.{ℕ}
 use mathlib.Core.Bool.{Bool, true, false, not}
 use mathlib.Core.List.{List, [], _∷_}
 use lib.Dec.{eqb, leb, ltb}
 use lib.ListN.{getD}
 use Rattle.command.specs.declared.Command.{Command}
-use Rattle.command.specs.declared.Command.the-variants.{Missing, Unknown, Short, Start, Caps, Loops, Mounts, Class, Put, Span, Fit, End}
+use Rattle.command.specs.declared.Command.the-variants.{Missing, Unknown, Short, Start, Caps, Loops, Mounts, Class, Put, Span, Fit, Shelf, Days, End}
 use Rattle.team.specs.Team.{capsKind, loopsKind, mountsKind}
+use Rattle.days.specs.Days.{dayOf}
 use Rattle.command.specs.declared.State.{State}
 use Rattle.team.specs.declared.Team.{Team}
 use Rattle.command.specs.Rule.{Rule, rule, firstBroken}
 
--- whether a command of the team names an instrument, by the table of those commands: 255 stands where none does
+-- whether a command names an instrument, by the table of those commands: 255 stands where none does
 abbrev pub named : List ℕ → ℕ → Bool
 named table i = not (eqb (getD table i 255) 255)
 
@@ -47,11 +48,20 @@ spanRules s team instrument a b =
 abbrev pub fitRules : State → Team → (instrument : ℕ) → List (Rule ℕ)
 fitRules s team instrument = rule (not (eqb (team .kind) mountsKind)) 4 ∷ rule (leb (s .m) instrument) 5 ∷ rule (named (team .named) instrument) 6 ∷ []
 
+-- SHELF "stands after START and before any team"; "a from not below its to" is 17; "a second for one instrument" is 6, by the pool's row
+abbrev pub shelfRules : State → (pool : Team) → (instrument from to : ℕ) → List (Rule ℕ)
+shelfRules s pool instrument from to =
+    rule (not (eqb (s .n) 0)) 4 ∷ rule (leb (s .m) instrument) 5 ∷ rule (leb to from) 17 ∷ rule (named (pool .named) instrument) 6 ∷ []
+
+-- DAYS "stands in an open team", of any kind; "a second for one ... team is 6"
+abbrev pub daysRules : State → Team → (from to : ℕ) → List (Rule ℕ)
+daysRules s team from to = rule (eqb (s .n) 0) 4 ∷ rule (leb to from) 17 ∷ rule (named (team .days) 0) 6 ∷ []
+
 -- "END with no team is 4"
 abbrev pub endRules : State → List (Rule ℕ)
 endRules s = rule (eqb (s .n) 0) 4 ∷ []
 
--- the rules for a command at an offset, given the open team. "No END is 2".
+-- the rules for a command at an offset, given the open team, and before any team the pool's row. "No END is 2".
 abbrev pub rulesOf : ℕ → State → Team → Command → List (Rule ℕ)
 rulesOf at s team Missing = rule true 2 ∷ []
 rulesOf at s team Unknown = rule true 3 ∷ []
@@ -64,6 +74,8 @@ rulesOf at s team (Class class cap) = classRules s (team .kind) class
 rulesOf at s team (Put instrument class) = putRules s team instrument class
 rulesOf at s team (Span instrument a b) = spanRules s team instrument a b
 rulesOf at s team (Fit instrument a b c d) = fitRules s team instrument
+rulesOf at s team (Shelf instrument a b c d) = shelfRules s team instrument (dayOf a b) (dayOf c d)
+rulesOf at s team (Days a b c d) = daysRules s team (dayOf a b) (dayOf c d)
 rulesOf at s team End = endRules s
 
 -- the number of the first rule that a command breaks, and 0 where it breaks none
@@ -83,4 +95,6 @@ isEnd (Class class cap) = false
 isEnd (Put instrument class) = false
 isEnd (Span instrument a b) = false
 isEnd (Fit instrument a b c d) = false
+isEnd (Shelf instrument a b c d) = false
+isEnd (Days a b c d) = false
 isEnd End = true

@@ -1,5 +1,5 @@
--- A team as a row of 338 bytes: its kind, its channels, the cap of each of 16 classes, then five tables over 64 instruments: the byte of the
--- command that names one, and the four operands of that command after the instrument.
+-- A team as a row of 343 bytes: its kind, its channels, the cap of each of 16 classes, then five tables over 64 instruments: the byte of the
+-- command that names one, and the four operands of that command after the instrument; last the command that says its days, five bytes.
 use Prim.Native.Nat.{ℕ, _≤_, _<_}
 use mathlib.Core.Path.{_≡_}
 use mathlib.Core.Logic.{_⊎_}
@@ -22,6 +22,7 @@ rowTeam row = record {
   second = part row 146 64;
   third = part row 210 64;
   fourth = part row 274 64;
+  days = part row 338 5;
 }
 
 -- r has a byte from one offset up to another, and elsewhere what the row had

@@ -22,7 +22,7 @@ pub fn nothing() -> State
 
 // Caps a class of the open team.
 fn set_cap(row: &mut [u8], class: u8, cap: u8)
-    requires { ⌜ length (now row) ≡ 338 ⌝ }
+    requires { ⌜ length (now row) ≡ 343 ⌝ }
     ensures { λ _. ⌜ rowTeam (now (row .exit)) ≡ changedTeam (rowTeam (now (row .entry))) (Command.Class class cap) ⌝ }
 {
     if class < 16 {
@@ -30,9 +30,9 @@ fn set_cap(row: &mut [u8], class: u8, cap: u8)
     }
 }
 
-// Names an instrument of the open team: the byte of the command, and its operands after the instrument (255 where it has fewer).
+// Names an instrument in the open row: the byte of the command, and its operands after the instrument (255 where it has fewer).
 fn set_named(row: &mut [u8], instrument: u8, command: u8, a: u8, b: u8, c: u8, d: u8)
-    requires { ⌜ length (now row) ≡ 338 ⌝ }
+    requires { ⌜ length (now row) ≡ 343 ⌝ }
     ensures { λ _. ⌜ rowTeam (now (row .exit)) ≡ namedTeam (rowTeam (now (row .entry))) instrument command a b c d ⌝ }
 {
     if instrument < 64 {
@@ -45,9 +45,21 @@ fn set_named(row: &mut [u8], instrument: u8, command: u8, a: u8, b: u8, c: u8, d
     }
 }
 
-// Changes the row of the team that is open after a command. A team that the command opens takes the place of what the row held.
+// Says the days of the open team: the byte of the command, and its operands.
+fn set_days(row: &mut [u8], a: u8, b: u8, c: u8, d: u8)
+    requires { ⌜ length (now row) ≡ 343 ⌝ }
+    ensures { λ _. ⌜ rowTeam (now (row .exit)) ≡ changedTeam (rowTeam (now (row .entry))) (Command.Days a b c d) ⌝ }
+{
+    row[row::DAYS] = 11;
+    row[row::DAYS + 1] = a;
+    row[row::DAYS + 2] = b;
+    row[row::DAYS + 3] = c;
+    row[row::DAYS + 4] = d;
+}
+
+// Changes the row that is open after a command. A team that the command opens takes the place of what the row held.
 pub fn change(row: &mut [u8], command: Command)
-    requires { ⌜ length (now row) ≡ 338 ⌝ }
+    requires { ⌜ length (now row) ≡ 343 ⌝ }
     ensures { λ _. ⌜ rowTeam (now (row .exit)) ≡ changedTeam (rowTeam (now (row .entry))) command ⌝ }
 {
     match command {
@@ -62,6 +74,8 @@ pub fn change(row: &mut [u8], command: Command)
         Command::Put(i, class) => set_named(row, i, 5, class, 255, 255, 255),
         Command::Span(i, a, b) => set_named(row, i, 6, a, b, 255, 255),
         Command::Fit(i, a, b, c, d) => set_named(row, i, 9, a, b, c, d),
+        Command::Shelf(i, a, b, c, d) => set_named(row, i, 10, a, b, c, d),
+        Command::Days(a, b, c, d) => set_days(row, a, b, c, d),
         Command::End => {}
     }
 }
@@ -107,6 +121,8 @@ pub fn changed_state(mut s: State, command: Command) -> State
         Command::Put(_, _) => s,
         Command::Span(_, _, _) => s,
         Command::Fit(_, _, _, _, _) => s,
+        Command::Shelf(_, _, _, _, _) => s,
+        Command::Days(_, _, _, _) => s,
         Command::End => s,
     }
 }

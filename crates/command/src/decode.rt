@@ -12,14 +12,14 @@ pub fn byte_at(file: &[u8], at: usize) -> u8
     if at < file.len() { file[at] } else { 0 }
 }
 
-// How many bytes the command of each byte below 0A has, operands included.
-const WIDTHS: [usize; 10] = [0, 3, 2, 2, 3, 3, 4, 1, 2, 6];
+// How many bytes the command of each byte below 0C has, operands included.
+const WIDTHS: [usize; 12] = [0, 3, 2, 2, 3, 3, 4, 1, 2, 6, 6, 5];
 
 // How many bytes the command of a byte has, operands included, and 0 for a byte that is no command's.
 fn width_of(byte: u8) -> usize
     ensures { λ r. ⌜ r ≡ widthOf byte ⌝ }
 {
-    if byte < 10 { WIDTHS[byte as usize] } else { 0 }
+    if byte < 12 { WIDTHS[byte as usize] } else { 0 }
 }
 
 // The command of a byte, with the operands that stand after an offset.
@@ -42,6 +42,14 @@ fn command_of(file: &[u8], at: usize, byte: u8) -> Command
             file[at + 4],
             file[at + 5],
         ),
+        10 => Command::Shelf(
+            file[at + 1],
+            file[at + 2],
+            file[at + 3],
+            file[at + 4],
+            file[at + 5],
+        ),
+        11 => Command::Days(file[at + 1], file[at + 2], file[at + 3], file[at + 4]),
         _ => Command::End,
     }
 }
@@ -80,6 +88,8 @@ pub fn width(command: Command) -> usize
         Command::Put(_, _) => 3,
         Command::Span(_, _, _) => 4,
         Command::Fit(_, _, _, _, _) => 6,
+        Command::Shelf(_, _, _, _, _) => 6,
+        Command::Days(_, _, _, _) => 5,
         Command::End => 1,
     }
 }

@@ -1,7 +1,7 @@
 // Which rule a command breaks first, by the state and the open team's row. 0: none.
 ghost use mathlib.Core.Path.{_≡_};
 ghost use lib.ListN.{length};
-ghost use Rattle.command.specs.Fault.{fault, startRules, teamRules, classRules, putRules, spanRules, fitRules, endRules, isEnd, named};
+ghost use Rattle.command.specs.Fault.{fault, startRules, teamRules, classRules, putRules, spanRules, fitRules, shelfRules, daysRules, endRules, isEnd, named};
 ghost use Rattle.command.specs.Row.{part, rowTeam};
 ghost use Rattle.command.specs.Rule.{firstBroken};
 use super::Command;
@@ -43,7 +43,7 @@ fn class_fault(s: State, kind: u8, class: u8) -> usize
 
 // PUT: in a CAPS team, an instrument below m, a class below 16, named once.
 fn put_fault(row: &[u8], s: State, instrument: u8, class: u8) -> usize
-    requires { ⌜ length (now row) ≡ 338 ⌝ }
+    requires { ⌜ length (now row) ≡ 343 ⌝ }
     ensures { λ r. ⌜ r ≡ firstBroken 0 (putRules s (rowTeam (now (row .entry))) instrument class) ⌝ }
 {
     let i = instrument as usize;
@@ -61,7 +61,7 @@ fn put_fault(row: &[u8], s: State, instrument: u8, class: u8) -> usize
 
 // SPAN: in a LOOPS team, an instrument below m, two different joints below 64, named once.
 fn span_fault(row: &[u8], s: State, instrument: u8, a: u8, b: u8) -> usize
-    requires { ⌜ length (now row) ≡ 338 ⌝ }
+    requires { ⌜ length (now row) ≡ 343 ⌝ }
     ensures { λ r. ⌜ r ≡ firstBroken 0 (spanRules s (rowTeam (now (row .entry))) instrument a b) ⌝ }
 {
     let i = instrument as usize;
@@ -85,7 +85,7 @@ fn span_fault(row: &[u8], s: State, instrument: u8, a: u8, b: u8) -> usize
 
 // FIT: in a MOUNTS team, an instrument below m, named once.
 fn fit_fault(row: &[u8], s: State, instrument: u8) -> usize
-    requires { ⌜ length (now row) ≡ 338 ⌝ }
+    requires { ⌜ length (now row) ≡ 343 ⌝ }
     ensures { λ r. ⌜ r ≡ firstBroken 0 (fitRules s (rowTeam (now (row .entry))) instrument) ⌝ }
 {
     let i = instrument as usize;
@@ -98,6 +98,38 @@ fn fit_fault(row: &[u8], s: State, instrument: u8) -> usize
     if named(row, i) { 6 } else { 0 } // also after a FIT with no bits
 }
 
+// SHELF: before any team, an instrument below m, days that are in order, one for each instrument.
+fn shelf_fault(row: &[u8], s: State, instrument: u8, from: u16, to: u16) -> usize
+    requires { ⌜ length (now row) ≡ 343 ⌝ }
+    ensures { λ r. ⌜ r ≡ firstBroken 0 (shelfRules s (rowTeam (now (row .entry))) instrument from to) ⌝ }
+{
+    let i = instrument as usize;
+    if s.n != 0 {
+        return 4;
+    }
+    if i >= s.m {
+        return 5;
+    }
+    if from >= to {
+        return 17;
+    }
+    if named(row, i) { 6 } else { 0 }
+}
+
+// DAYS: in a team of any kind, days that are in order, one for each team.
+fn days_fault(row: &[u8], s: State, from: u16, to: u16) -> usize
+    requires { ⌜ length (now row) ≡ 343 ⌝ }
+    ensures { λ r. ⌜ r ≡ firstBroken 0 (daysRules s (rowTeam (now (row .entry))) from to) ⌝ }
+{
+    if s.n == 0 {
+        return 4;
+    }
+    if from >= to {
+        return 17;
+    }
+    if row[row::DAYS] != 255 { 6 } else { 0 }
+}
+
 // END: after a team.
 fn end_fault(s: State) -> usize
     ensures { λ r. ⌜ r ≡ firstBroken 0 (endRules s) ⌝ }
@@ -107,7 +139,7 @@ fn end_fault(s: State) -> usize
 
 // The number of the first rule that a command breaks, given the row of the open team.
 pub fn fault_of(row: &[u8], at: usize, s: State, command: Command) -> usize
-    requires { ⌜ length (now row) ≡ 338 ⌝ }
+    requires { ⌜ length (now row) ≡ 343 ⌝ }
     ensures { λ r. ⌜ r ≡ fault at s (rowTeam (now (row .entry))) command ⌝ }
 {
     match command {
@@ -122,6 +154,8 @@ pub fn fault_of(row: &[u8], at: usize, s: State, command: Command) -> usize
         Command::Put(i, class) => put_fault(row, s, i, class),
         Command::Span(i, a, b) => span_fault(row, s, i, a, b),
         Command::Fit(i, _, _, _, _) => fit_fault(row, s, i),
+        Command::Shelf(i, a, b, c, d) => shelf_fault(row, s, i, days::day(a, b), days::day(c, d)),
+        Command::Days(a, b, c, d) => days_fault(row, s, days::day(a, b), days::day(c, d)),
         Command::End => end_fault(s),
     }
 }
@@ -142,13 +176,15 @@ pub fn is_end(command: Command) -> bool
         Command::Put(_, _) => false,
         Command::Span(_, _, _) => false,
         Command::Fit(_, _, _, _, _) => false,
+        Command::Shelf(_, _, _, _, _) => false,
+        Command::Days(_, _, _, _) => false,
         Command::End => true,
     }
 }
 
 // Whether a command of the open team names an instrument.
 fn named(row: &[u8], i: usize) -> bool
-    requires { ⌜ length (now row) ≡ 338 ⌝ }
+    requires { ⌜ length (now row) ≡ 343 ⌝ }
     ensures { λ r. ⌜ r ≡ named (part (now (row .entry)) 18 64) i ⌝ }
 {
     if i < 64 {

@@ -21,6 +21,8 @@ pub enum Command {
     Put(u8, u8),
     Span(u8, u8, u8),
     Fit(u8, u8, u8, u8, u8),
+    Shelf(u8, u8, u8, u8, u8),
+    Days(u8, u8, u8, u8),
     End,
 }
 

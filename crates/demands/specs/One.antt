@@ -3,7 +3,7 @@
 -- That every call ends is part of what is proved of each function. A number of 0 is no refusal.
 use Prim.Native.Nat.{ℕ, _+_, _*_, _≤_, _<_}
 use mathlib.Core.Path.{_≡_}
-use mathlib.Core.Logic.{_≢_}
+use mathlib.Core.Logic.{_≢_, _⊎_}
 use mathlib.Core.List.{List}
 use lib.Dec.{T}
 use lib.ListN.{length}
@@ -101,12 +101,12 @@ Checks plan sheet number place = ChecksBy (readPlan plan) sheet number place
 
 -- ---- Read
 
--- The answer is the plan's reading. A refusal's number is at most 9 and its place at most 4,636; an accepted plan has at most 4,636 bytes, "m (0
--- to 64)" instruments, and "their count n is 1 to 12".
+-- The answer is the plan's reading. A refusal's number is at most 9, or 17, and its place at most 5,080; an accepted plan has at most 5,080 bytes,
+-- "m (0 to 64)" instruments, and "their count n is 1 to 12".
 pub record Reads (plan : List ℕ) (r : Reading) : Type 0 where
   pub is : r ≡ readPlan plan
-  pub number : r .refusal ≤ 9
-  pub place : r .place ≤ 4636
-  pub short : r .refusal ≡ 0 → length plan ≤ 4636
+  pub number : (r .refusal ≤ 9) ⊎ (r .refusal ≡ 17)
+  pub place : r .place ≤ 5080
+  pub short : r .refusal ≡ 0 → length plan ≤ 5080
   pub instruments : r .refusal ≡ 0 → r .m ≤ 64
   pub teams : r .refusal ≡ 0 → (1 ≤ r .n) × (r .n ≤ 12)

@@ -7,6 +7,7 @@ mod building;
 mod changing;
 mod giving;
 mod listing;
+mod loan;
 mod naming;
 mod reading;
 mod room;
@@ -65,7 +66,7 @@ fn run(text: &[u8]) {
     }
 }
 
-// Of standard input the first 131,072 bytes are read.
+// Of standard input the first 262,144 bytes are read.
 fn main() {
     let mut space = space::of_input();
     let n = io::read_full(STDIN_FILENO, &mut space);

@@ -1,7 +1,9 @@
 // The verb `read HEX`: what reading a plan comes to.
 ghost use Prim.Native.Nat.{_<_};
+use crate::loan;
 use crate::naming;
 use crate::space;
+use days::Days;
 use lines::print;
 use plan::Reading;
 use team::Team;
@@ -59,34 +61,40 @@ fn kind(byte: u8) {
     }
 }
 
-// A team: its kind and channels, and all that its tables hold, whichever kind it is.
-fn team(t: Team) {
+// A team: its kind and channels, all that its tables hold, whichever kind it is, and its days.
+fn team(t: Team, d: Days) {
     kind(t.kind);
     print::marked(b" ", t.channels as u64);
     let cap = t.cap;
     caps(cap);
     instruments(t);
+    let bytes = t.days;
+    loan::team(bytes, d);
 }
 
 // The first n teams, and what stands in the place after them where there is one.
-fn teams(n: usize, table: [Team; 12]) {
+fn teams(n: usize, table: [Team; 12], days: [Days; 12]) {
     for k in 0..12usize {
         if k <= n {
-            team(table[k]);
+            team(table[k], days[k]);
         }
     }
 }
 
-// `REFUSED number place`, or `m n` and then each team, and the place after the last, after a semicolon.
+// `REFUSED number place`, or `m n`, the shelf days, and then each team, and the place after the last, after a semicolon.
 fn show(r: Reading) {
+    let shelf = r.shelf;
+    let days = r.days;
     if r.refusal != 0 {
         print::refusal(r.refusal, r.place);
+        loan::refused(shelf, days);
         return;
     }
     print::marked(b"", r.m as u64);
     print::marked(b" ", r.n as u64);
+    loan::shelf(shelf);
     let table = r.teams;
-    teams(r.n, table);
+    teams(r.n, table, days);
 }
 
 // Answers the verb.

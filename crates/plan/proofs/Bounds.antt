@@ -8,51 +8,53 @@ use mathlib.Core.List.{List}
 use native.Mathlib.Omega.{arith}
 use native.Mathlib.Decide.{decLe, ℕ-discrete}
 use lib.Dec.{eqb, ltb}
-use lib.ListN.{length, getD, take, replicate, length-take}
+use lib.ListN.{length, getD, set, take, replicate, length-take}
 use lib.Seq.{take-all, getD-take}
 use borrow.Author.Tests.{ltb-false, eqb-false, lt-leb, le-leb, lt-ltb}
 use Rattle.command.specs.declared.Command.{Command}
-use Rattle.command.specs.declared.Command.the-variants.{Missing, Unknown, Short, Start, Caps, Loops, Mounts, Class, Put, Span, Fit, End}
+use Rattle.command.specs.declared.Command.the-variants.{Missing, Unknown, Short, Start, Caps, Loops, Mounts, Class, Put, Span, Fit, Shelf, Days, End}
 use Rattle.plan.specs.declared.Reading.{Reading}
 use Rattle.command.specs.declared.State.{State}
 use Rattle.team.specs.declared.Team.{Team}
 use Rattle.command.specs.Command.{widthOf, commandBy, commandAt, bytesOf}
 use Rattle.command.specs.Fault.{fault, isEnd}
-use Rattle.command.specs.Carry.{start, openTeam, changedTeam, changedState}
+use Rattle.command.specs.Carry.{start, openTeam, changedTeam, changedState, daysOf, shelfOf}
 use Rattle.team.specs.Team.{blankTeam}
-use Rattle.plan.specs.Read.{refused, accepted, finished, changedTeams, readFrom, readPlan}
+use Rattle.days.specs.Days.{always}
+use Rattle.plan.specs.Read.{refused, accepted, finished, readFrom, readPlan}
 use Rattle.plan.specs.Valid.{Valid}
 use Rattle.plan.proofs.Kept.{Kept, kept-at, kept-start, kept-next}
 use Rattle.command.proofs.Standing.{Whole, whole}
+use Rattle.plan.proofs.Each.{each-length, each-at}
 use Rattle.plan.proofs.Steps.{number, step-refused, step-end, step-next, plan-start, plan-none}
 
 -- What holds of every refusal and of every end holds of every reading.
 module _ (file : List ℕ) (P : Reading → Type 0)
-    (at-fault : (at : ℕ) (s : State) (teams : List Team) → Kept at s teams → at ≤ length file → number file at s teams ≢ 0 → P (refused (number file at s teams) at))
-    (at-end : (at : ℕ) (s : State) (teams : List Team) → Kept at s teams → at + bytesOf (commandAt file at) ≤ length file → number file at s teams ≡ 0 → isEnd (commandAt file at) ≡ true → P (finished file at s teams)) where
-  from : (fuel at : ℕ) (s : State) (teams : List Team) → Kept at s teams → at ≤ length file → length file < at + fuel → P (readFrom fuel file at s teams)
-  from zero at s teams k inside enough = absurd (omega arith)
-  from (suc fuel) at s teams k inside enough = go (λ z. whole file at s (openTeam teams (s .n)) z) (ℕ-discrete (number file at s teams) 0) (isEnd (commandAt file at)) refl
-      (λ (z : number file at s teams ≡ 0) (e : isEnd (commandAt file at) ≡ false) (w : Whole file at (commandAt file at)).
+    (at-fault : (at : ℕ) (s : State) (rows : List Team) → Kept at s rows → at ≤ length file → number file at s rows ≢ 0 → P (refused (number file at s rows) at))
+    (at-end : (at : ℕ) (s : State) (rows : List Team) → Kept at s rows → at + bytesOf (commandAt file at) ≤ length file → number file at s rows ≡ 0 → isEnd (commandAt file at) ≡ true → P (finished file at s rows)) where
+  from : (fuel at : ℕ) (s : State) (rows : List Team) → Kept at s rows → at ≤ length file → length file < at + fuel → P (readFrom fuel file at s rows)
+  from zero at s rows k inside enough = absurd (omega arith)
+  from (suc fuel) at s rows k inside enough = go (λ z. whole file at s (openTeam rows (s .n)) z) (ℕ-discrete (number file at s rows) 0) (isEnd (commandAt file at)) refl
+      (λ (z : number file at s rows ≡ 0) (e : isEnd (commandAt file at) ≡ false) (w : Whole file at (commandAt file at)).
       let command = commandAt file at in
       let some = w .some in
-      from fuel (at + bytesOf command) (changedState s command) (changedTeams teams (changedState s command .n) (changedTeam (openTeam teams (s .n)) command))
-      (kept-next at s teams command k z e) (w .fits) (omega arith))
+      from fuel (at + bytesOf command) (changedState s command) (set rows (changedState s command .n) (changedTeam (openTeam rows (s .n)) command))
+      (kept-next at s rows command k z e) (w .fits) (omega arith))
     where
-      go : (number file at s teams ≡ 0 → Whole file at (commandAt file at)) → Dec (number file at s teams ≡ 0) → (b : Bool) → isEnd (commandAt file at) ≡ b
-          → (number file at s teams ≡ 0 → isEnd (commandAt file at) ≡ false → Whole file at (commandAt file at)
-          → P (readFrom fuel file (at + bytesOf (commandAt file at)) (changedState s (commandAt file at)) (changedTeams teams (changedState s (commandAt file at) .n) (changedTeam (openTeam teams (s .n)) (commandAt file at)))))
-          → P (readFrom (suc fuel) file at s teams)
-      go stands (no d) b e rest = rw (step-refused fuel file at s teams d) (at-fault at s teams k inside d)
-      go stands (yes z) true e rest = rw (step-end fuel file at s teams z e) (at-end at s teams k (stands z .fits) z e)
-      go stands (yes z) false e rest = rw (step-next fuel file at s teams z e) (rest z e (stands z))
+      go : (number file at s rows ≡ 0 → Whole file at (commandAt file at)) → Dec (number file at s rows ≡ 0) → (b : Bool) → isEnd (commandAt file at) ≡ b
+          → (number file at s rows ≡ 0 → isEnd (commandAt file at) ≡ false → Whole file at (commandAt file at)
+          → P (readFrom fuel file (at + bytesOf (commandAt file at)) (changedState s (commandAt file at)) (set rows (changedState s (commandAt file at) .n) (changedTeam (openTeam rows (s .n)) (commandAt file at)))))
+          → P (readFrom (suc fuel) file at s rows)
+      go stands (no d) b e rest = rw (step-refused fuel file at s rows d) (at-fault at s rows k inside d)
+      go stands (yes z) true e rest = rw (step-end fuel file at s rows z e) (at-end at s rows k (stands z .fits) z e)
+      go stands (yes z) false e rest = rw (step-next fuel file at s rows z e) (rest z e (stands z))
 
   -- so of every file that starts with a START byte, and of the refusal of any other
   pub all-readings : P (refused 1 0) → P (readPlan file)
   all-readings none = go (ℕ-discrete (getD file 0 0) 1)
     where
       go : Dec (getD file 0 0 ≡ 1) → P (readPlan file)
-      go (yes e) = rw (plan-start file e) (from (suc (length file)) 0 start (replicate 12 blankTeam) kept-start (omega arith) (omega arith))
+      go (yes e) = rw (plan-start file e) (from (suc (length file)) 0 start (replicate 13 blankTeam) kept-start (omega arith) (omega arith))
       go (no d) = rw (plan-none file d) none
 
 -- ---- the bounds
@@ -70,6 +72,8 @@ is-end (Class class most) e = absurd (false≢true e)
 is-end (Put instrument class) e = absurd (false≢true e)
 is-end (Span instrument a b) e = absurd (false≢true e)
 is-end (Fit instrument a b c d) e = absurd (false≢true e)
+is-end (Shelf instrument a b c d) e = absurd (false≢true e)
+is-end (Days a b c d) e = absurd (false≢true e)
 is-end End e = refl
 
 -- an END that breaks no rule has a team before it
@@ -83,29 +87,41 @@ end-some at s team command e z = go (eqb (s .n) 0) refl (subst (λ (c : Command)
 
 -- what is known of a reading
 pub record Bounded (file : List ℕ) (r : Reading) : Type 0 where
-  -- every refusal's place is at most 4,636
-  pub place : r .place ≤ 4636
-  -- an accepted file has at most 4,636 bytes
-  pub short : r .refusal ≡ 0 → length file ≤ 4636
+  -- every refusal's place is at most 5,080
+  pub place : r .place ≤ 5080
+  -- an accepted file has at most 5,080 bytes
+  pub short : r .refusal ≡ 0 → length file ≤ 5080
   -- and its reading is in order
   pub valid : r .refusal ≡ 0 → Valid r
+
+-- what is accepted is in order
+accepted-valid : {at : ℕ} (s : State) (rows : List Team) → Kept at s rows → 1 ≤ s .n → Valid (accepted s rows)
+accepted-valid s rows k some = record {
+  teams-long = each-length (λ t. getD rows (t + 1) blankTeam) 12;
+  shelf-long = each-length (λ i. cond (ltb i (s .m)) (shelfOf (getD rows 0 blankTeam) i) always) 64;
+  days-long = each-length (λ t. daysOf (getD rows (t + 1) blankTeam)) 12;
+  some = some;
+  few = k .few;
+  small = k .small;
+  team = λ t l. let few = k .few in rw (each-at (λ t. getD rows (t + 1) blankTeam) blankTeam 12 t (omega arith)) (k .kept t l);
+}
 
 pub bounded : (file : List ℕ) → Bounded file (readPlan file)
 bounded file = all-readings file (Bounded file) at-fault at-end (record { place = omega arith; short = λ e. absurd (omega arith); valid = λ e. absurd (omega arith) })
   where
-    at-fault : (at : ℕ) (s : State) (teams : List Team) → Kept at s teams → at ≤ length file → number file at s teams ≢ 0 → Bounded file (refused (number file at s teams) at)
-    at-fault at s teams k inside d = record { place = let l = kept-at k in omega arith; short = λ e. absurd (d e); valid = λ e. absurd (d e) }
+    at-fault : (at : ℕ) (s : State) (rows : List Team) → Kept at s rows → at ≤ length file → number file at s rows ≢ 0 → Bounded file (refused (number file at s rows) at)
+    at-fault at s rows k inside d = record { place = let l = kept-at k in omega arith; short = λ e. absurd (d e); valid = λ e. absurd (d e) }
 
-    ended : (at : ℕ) (s : State) (teams : List Team) → Kept at s teams → 1 ≤ s .n → (b : Bool) → ltb (at + 1) (length file) ≡ b → Bounded file (cond b (refused 9 (at + 1)) (accepted s teams))
-    ended at s teams k some true t = record { place = let l = kept-at k in omega arith; short = λ e. absurd (omega arith); valid = λ e. absurd (omega arith) }
-    ended at s teams k some false t = record {
+    ended : (at : ℕ) (s : State) (rows : List Team) → Kept at s rows → 1 ≤ s .n → (b : Bool) → ltb (at + 1) (length file) ≡ b → Bounded file (cond b (refused 9 (at + 1)) (accepted s rows))
+    ended at s rows k some true t = record { place = let l = kept-at k in omega arith; short = λ e. absurd (omega arith); valid = λ e. absurd (omega arith) }
+    ended at s rows k some false t = record {
       place = omega arith;
       short = λ _. let l = kept-at k in let h = ltb-false (at + 1) (length file) t in omega arith;
-      valid = λ _. record { teams-long = k .teams-long; some = some; few = k .few; small = k .small; team = k .kept };
+      valid = λ _. accepted-valid s rows k some;
     }
 
-    at-end : (at : ℕ) (s : State) (teams : List Team) → Kept at s teams → at + bytesOf (commandAt file at) ≤ length file → number file at s teams ≡ 0 → isEnd (commandAt file at) ≡ true → Bounded file (finished file at s teams)
-    at-end at s teams k fits z e = ended at s teams k (end-some at s (openTeam teams (s .n)) (commandAt file at) e z) (ltb (at + 1) (length file)) refl
+    at-end : (at : ℕ) (s : State) (rows : List Team) → Kept at s rows → at + bytesOf (commandAt file at) ≤ length file → number file at s rows ≡ 0 → isEnd (commandAt file at) ≡ true → Bounded file (finished file at s rows)
+    at-end at s rows k fits z e = ended at s rows k (end-some at s (openTeam rows (s .n)) (commandAt file at) e z) (ltb (at + 1) (length file)) refl
 
 -- ---- a file's first bytes decide its reading
 
@@ -121,7 +137,9 @@ width-le (suc (suc (suc (suc (suc (suc zero)))))) = omega arith
 width-le (suc (suc (suc (suc (suc (suc (suc zero))))))) = omega arith
 width-le (suc (suc (suc (suc (suc (suc (suc (suc zero)))))))) = omega arith
 width-le (suc (suc (suc (suc (suc (suc (suc (suc (suc zero))))))))) = omega arith
-width-le (suc (suc (suc (suc (suc (suc (suc (suc (suc (suc k)))))))))) = omega arith
+width-le (suc (suc (suc (suc (suc (suc (suc (suc (suc (suc zero)))))))))) = omega arith
+width-le (suc (suc (suc (suc (suc (suc (suc (suc (suc (suc (suc zero))))))))))) = omega arith
+width-le (suc (suc (suc (suc (suc (suc (suc (suc (suc (suc (suc (suc k)))))))))))) = omega arith
 
 -- a command whose six bytes are in a file, whatever follows them
 abbrev six : List ℕ → ℕ → Command
@@ -133,7 +151,7 @@ inside-six file at l =
     let w = width-le (getD file at 0) in
     rw (lt-leb (length file) at (omega arith), le-leb (at + widthOf (getD file at 0)) (length file) (omega arith), commandAt) refl
 
-module _ (file : List ℕ) (w : ℕ) (enough : 4641 ≤ w) (long : w ≤ length file) where
+module _ (file : List ℕ) (w : ℕ) (enough : 5085 ≤ w) (long : w ≤ length file) where
   window : List ℕ
   window = take w file
 
@@ -142,7 +160,7 @@ module _ (file : List ℕ) (w : ℕ) (enough : 4641 ≤ w) (long : w ≤ length 
   window-length = length-take w file ∙ (omega arith)
 
   -- the same command
-  same-command : (at : ℕ) → at ≤ 4635 → commandAt window at ≡ commandAt file at
+  same-command : (at : ℕ) → at ≤ 5079 → commandAt window at ≡ commandAt file at
   unfolding window
   same-command at l =
       let e = window-length in
@@ -151,50 +169,50 @@ module _ (file : List ℕ) (w : ℕ) (enough : 4641 ≤ w) (long : w ≤ length 
       (sym (inside-six file at (omega arith)))
 
   -- END is followed by more in either
-  same-end : (at : ℕ) (s : State) (teams : List Team) → at ≤ 4635 → finished window at s teams ≡ finished file at s teams
-  same-end at s teams l =
+  same-end : (at : ℕ) (s : State) (rows : List Team) → at ≤ 5079 → finished window at s rows ≡ finished file at s rows
+  same-end at s rows l =
       let e = window-length in
       rw (lt-ltb (at + 1) (length window) (omega arith), lt-ltb (at + 1) (length file) (omega arith)) refl
 
-  same-number : (at : ℕ) (s : State) (teams : List Team) → at ≤ 4635 → number window at s teams ≡ number file at s teams
-  same-number at s teams l = ap (fault at s (openTeam teams (s .n))) (same-command at l)
+  same-number : (at : ℕ) (s : State) (rows : List Team) → at ≤ 5079 → number window at s rows ≡ number file at s rows
+  same-number at s rows l = ap (fault at s (openTeam rows (s .n))) (same-command at l)
 
-  same-from : (fuel fuel′ at : ℕ) (s : State) (teams : List Team) → Kept at s teams → at ≤ w → w < at + fuel → length file < at + fuel′
-      → readFrom fuel window at s teams ≡ readFrom fuel′ file at s teams
-  same-from zero fuel′ at s teams k inside a b = absurd (omega arith)
-  same-from (suc fuel) zero at s teams k inside a b = absurd (omega arith)
-  same-from (suc fuel) (suc fuel′) at s teams k inside a b =
-      go (ℕ-discrete (number file at s teams) 0) (isEnd (commandAt file at)) refl
-      (λ (z : number file at s teams ≡ 0) (e : isEnd (commandAt file at) ≡ false) (some : 0 < bytesOf (commandAt file at)) (fits : at + bytesOf (commandAt file at) ≤ w).
+  same-from : (fuel fuel′ at : ℕ) (s : State) (rows : List Team) → Kept at s rows → at ≤ w → w < at + fuel → length file < at + fuel′
+      → readFrom fuel window at s rows ≡ readFrom fuel′ file at s rows
+  same-from zero fuel′ at s rows k inside a b = absurd (omega arith)
+  same-from (suc fuel) zero at s rows k inside a b = absurd (omega arith)
+  same-from (suc fuel) (suc fuel′) at s rows k inside a b =
+      go (ℕ-discrete (number file at s rows) 0) (isEnd (commandAt file at)) refl
+      (λ (z : number file at s rows ≡ 0) (e : isEnd (commandAt file at) ≡ false) (some : 0 < bytesOf (commandAt file at)) (fits : at + bytesOf (commandAt file at) ≤ w).
       let command = commandAt file at in
-      same-from fuel fuel′ (at + bytesOf command) (changedState s command) (changedTeams teams (changedState s command .n) (changedTeam (openTeam teams (s .n)) command))
-      (kept-next at s teams command k z e) fits (omega arith) (omega arith))
+      same-from fuel fuel′ (at + bytesOf command) (changedState s command) (set rows (changedState s command .n) (changedTeam (openTeam rows (s .n)) command))
+      (kept-next at s rows command k z e) fits (omega arith) (omega arith))
     where
-      l : at ≤ 4635
+      l : at ≤ 5079
       l = kept-at k
 
-      go : Dec (number file at s teams ≡ 0) → (b : Bool) → isEnd (commandAt file at) ≡ b
-          → (number file at s teams ≡ 0 → isEnd (commandAt file at) ≡ false → 0 < bytesOf (commandAt file at) → at + bytesOf (commandAt file at) ≤ w
-          → readFrom fuel window (at + bytesOf (commandAt file at)) (changedState s (commandAt file at)) (changedTeams teams (changedState s (commandAt file at) .n) (changedTeam (openTeam teams (s .n)) (commandAt file at)))
-          ≡ readFrom fuel′ file (at + bytesOf (commandAt file at)) (changedState s (commandAt file at)) (changedTeams teams (changedState s (commandAt file at) .n) (changedTeam (openTeam teams (s .n)) (commandAt file at))))
-          → readFrom (suc fuel) window at s teams ≡ readFrom (suc fuel′) file at s teams
+      go : Dec (number file at s rows ≡ 0) → (b : Bool) → isEnd (commandAt file at) ≡ b
+          → (number file at s rows ≡ 0 → isEnd (commandAt file at) ≡ false → 0 < bytesOf (commandAt file at) → at + bytesOf (commandAt file at) ≤ w
+          → readFrom fuel window (at + bytesOf (commandAt file at)) (changedState s (commandAt file at)) (set rows (changedState s (commandAt file at) .n) (changedTeam (openTeam rows (s .n)) (commandAt file at)))
+          ≡ readFrom fuel′ file (at + bytesOf (commandAt file at)) (changedState s (commandAt file at)) (set rows (changedState s (commandAt file at) .n) (changedTeam (openTeam rows (s .n)) (commandAt file at))))
+          → readFrom (suc fuel) window at s rows ≡ readFrom (suc fuel′) file at s rows
       go (no d) b e rest =
-          step-refused fuel window at s teams (λ z. d (sym (same-number at s teams l) ∙ z))
-          ∙ ap (λ (x : ℕ). refused x at) (same-number at s teams l)
-          ∙ sym (step-refused fuel′ file at s teams d)
+          step-refused fuel window at s rows (λ z. d (sym (same-number at s rows l) ∙ z))
+          ∙ ap (λ (x : ℕ). refused x at) (same-number at s rows l)
+          ∙ sym (step-refused fuel′ file at s rows d)
       go (yes z) true e rest =
-          step-end fuel window at s teams (same-number at s teams l ∙ z) (ap isEnd (same-command at l) ∙ e)
-          ∙ same-end at s teams l
-          ∙ sym (step-end fuel′ file at s teams z e)
+          step-end fuel window at s rows (same-number at s rows l ∙ z) (ap isEnd (same-command at l) ∙ e)
+          ∙ same-end at s rows l
+          ∙ sym (step-end fuel′ file at s rows z e)
       go (yes z) false e rest =
-          let there = whole window at s (openTeam teams (s .n)) (same-number at s teams l ∙ z) in
+          let there = whole window at s (openTeam rows (s .n)) (same-number at s rows l ∙ z) in
           let len = window-length in
           let same = ap bytesOf (same-command at l) in
           let fits = there .fits in
           let some = there .some in
-          step-next fuel window at s teams (same-number at s teams l ∙ z) (ap isEnd (same-command at l) ∙ e)
+          step-next fuel window at s rows (same-number at s rows l ∙ z) (ap isEnd (same-command at l) ∙ e)
           ∙ rw (same-command at l) (rest z e (omega arith) (omega arith))
-          ∙ sym (step-next fuel′ file at s teams z e)
+          ∙ sym (step-next fuel′ file at s rows z e)
 
   -- the window is read as the file is
   same-reading : readPlan window ≡ readPlan file
@@ -208,7 +226,7 @@ module _ (file : List ℕ) (w : ℕ) (enough : 4641 ≤ w) (long : w ≤ length 
       go (yes e) =
           let len = window-length in
           plan-start window (first ∙ e)
-          ∙ same-from (suc (length window)) (suc (length file)) 0 start (replicate 12 blankTeam) kept-start (omega arith) (omega arith) (omega arith)
+          ∙ same-from (suc (length window)) (suc (length file)) 0 start (replicate 13 blankTeam) kept-start (omega arith) (omega arith) (omega arith)
           ∙ sym (plan-start file e)
       go (no d) = plan-none window (λ e. d (sym first ∙ e)) ∙ sym (plan-none file d)
 

@@ -1,21 +1,22 @@
 -- One command followed: the ways out of `follow`.
 use Prim.Native.Nat.{ℕ, _+_, _-_, _*_, _≤_}
 use mathlib.Core.Path.{_≡_, refl, sym, ap, _∙_, subst⁻¹}
-use mathlib.Core.Bool.{Bool, true, false, cond, true≢false}
+use mathlib.Core.Bool.{Bool, true, false, not, cond, true≢false}
 use mathlib.Core.Logic.{inl, inr, _≢_}
 use mathlib.Core.List.{List, _++_}
 use native.Mathlib.Omega.{arith}
-use lib.Dec.{leb}
+use lib.Dec.{eqb, leb, ltb}
 use lib.ListN.{length, take, drop}
-use borrow.Author.Tests.{eq-eqb, ne-eqb, leb-false}
+use borrow.Author.Tests.{eq-eqb, ne-eqb, leb-false, ltb-false}
 use Rattle.team.specs.declared.Team.{Team}
 use Rattle.command.specs.declared.Command.{Command}
-use Rattle.command.specs.declared.Command.the-variants.{Missing, Unknown, Short, Start, Caps, Loops, Mounts, Class, Put, Span, Fit, End}
+use Rattle.command.specs.declared.Command.the-variants.{Missing, Unknown, Short, Start, Caps, Loops, Mounts, Class, Put, Span, Fit, Shelf, Days, End}
 use Rattle.command.specs.declared.State.{State}
 use Rattle.command.specs.Fault.{fault, isEnd}
 use Rattle.command.specs.Carry.{changedTeam, changedState}
 use Rattle.command.specs.Row.{rowTeam}
 use Rattle.plan.specs.Progress.{rowAt, Followed}
+use Rattle.plan.proofs.Tables.{first-holds}
 use Rattle.plan.proofs.Rows.{lent, lent-length, row-lent, put-row, put-other}
 
 -- a thirteenth team is refused
@@ -36,9 +37,33 @@ few-teams at s team (Class class most) l e = l
 few-teams at s team (Put instrument class) l e = l
 few-teams at s team (Span instrument a b) l e = l
 few-teams at s team (Fit instrument a b c d) l e = l
+few-teams at s team (Shelf instrument a b c d) l e = l
+few-teams at s team (Days a b c d) l e = l
 few-teams at s team End l e = l
 
-module _ (rows : List ℕ) (at : ℕ) (s : State) (command : Command) (number : ℕ) (is : number ≡ fault at s (rowTeam (take (338 * s .n + 338 - 338 * s .n) (drop (338 * s .n) rows))) command) where
+-- and so are more than 64 instruments
+pub small-pool : (at : ℕ) (s : State) (team : Team) (command : Command) → s .m ≤ 64 → fault at s team command ≡ 0 → changedState s command .m ≤ 64
+unfolding fault changedState
+small-pool at s team Missing l e = l
+small-pool at s team Unknown l e = l
+small-pool at s team Short l e = l
+small-pool at s team (Start version m) l e =
+    let (_, e₁) = first-holds (not (eqb at 0)) 4 _ (omega arith) e in
+    let (_, e₂) = first-holds (not (eqb version 1)) 5 _ (omega arith) e₁ in
+    let (r, _) = first-holds (ltb 64 m) 5 _ (omega arith) e₂ in
+    ltb-false 64 m r
+small-pool at s team (Caps channels) l e = l
+small-pool at s team (Loops channels) l e = l
+small-pool at s team (Mounts channels) l e = l
+small-pool at s team (Class class most) l e = l
+small-pool at s team (Put instrument class) l e = l
+small-pool at s team (Span instrument a b) l e = l
+small-pool at s team (Fit instrument a b c d) l e = l
+small-pool at s team (Shelf instrument a b c d) l e = l
+small-pool at s team (Days a b c d) l e = l
+small-pool at s team End l e = l
+
+module _ (rows : List ℕ) (at : ℕ) (s : State) (command : Command) (number : ℕ) (is : number ≡ fault at s (rowTeam (take (343 * s .n + 343 - 343 * s .n) (drop (343 * s .n) rows))) command) where
   -- the rule that is broken, given the open team's row
   number-is : number ≡ fault at s (rowAt rows (s .n)) command
   number-is = is ∙ ap (λ (team : Team). fault at s team command) (row-lent rows (s .n))
@@ -67,10 +92,10 @@ module _ (rows : List ℕ) (at : ℕ) (s : State) (command : Command) (number : 
       other = λ k l o. refl;
     }
 
-    -- the row of the team that is then open was lent, changed and put back
-    pub follow-on : isEnd command ≡ false → length rows ≡ 4394 → s .n ≤ 12 → (next : State) → next ≡ changedState s command → (ys : List ℕ)
-        → length ys ≡ length (take (338 * next .n + 338 - 338 * next .n) (drop (338 * next .n) rows)) → rowTeam ys ≡ changedTeam (rowTeam (take (338 * next .n + 338 - 338 * next .n) (drop (338 * next .n) rows))) command
-        → Followed rows at s command (record { s = next; stopped = false; fault = 0; at = at }) (take (338 * next .n) rows ++ (ys ++ drop (338 * next .n + 338 - 338 * next .n) (drop (338 * next .n) rows)))
+    -- the row that is then open was lent, changed and put back
+    pub follow-on : isEnd command ≡ false → length rows ≡ 4459 → s .n ≤ 12 → (next : State) → next ≡ changedState s command → (ys : List ℕ)
+        → length ys ≡ length (take (343 * next .n + 343 - 343 * next .n) (drop (343 * next .n) rows)) → rowTeam ys ≡ changedTeam (rowTeam (take (343 * next .n + 343 - 343 * next .n) (drop (343 * next .n) rows))) command
+        → Followed rows at s command (record { s = next; stopped = false; fault = 0; at = at }) (take (343 * next .n) rows ++ (ys ++ drop (343 * next .n + 343 - 343 * next .n) (drop (343 * next .n) rows)))
     follow-on e long few next same ys wide changed =
         let within = follow-few few next same in
         let full = wide ∙ ap length (lent rows (next .n)) ∙ lent-length rows (next .n) long within in

@@ -1,6 +1,6 @@
 -- The table of rows that reading fills: one row changed, and the teams of its rows.
 use Prim.Native.Nat.{ℕ, _+_, _-_, _*_, _≤_, _<_}
-use mathlib.Core.Path.{_≡_, ap, _∙_}
+use mathlib.Core.Path.{_≡_, refl, ap, _∙_}
 use mathlib.Core.List.{List, _++_}
 use mathlib.Core.Logic.{_≢_}
 use native.Mathlib.Omega.{arith}
@@ -12,17 +12,22 @@ use Rattle.command.proofs.Rows.{part-at, part-length, part-is}
 use Rattle.plan.specs.Progress.{rowAt}
 
 -- so many bytes of the table, as the code lends them
-pub lent : (rows : List ℕ) (k : ℕ) → take (338 * k + 338 - 338 * k) (drop (338 * k) rows) ≡ part rows (338 * k) 338
+pub lent : (rows : List ℕ) (k : ℕ) → take (343 * k + 343 - 343 * k) (drop (343 * k) rows) ≡ part rows (343 * k) 343
 unfolding part
-lent rows k = let e : 338 * k + 338 - 338 * k ≡ 338 = omega arith in ap (λ (n : ℕ). take n (drop (338 * k) rows)) e
+lent rows k = let e : 343 * k + 343 - 343 * k ≡ 343 = omega arith in ap (λ (n : ℕ). take n (drop (343 * k) rows)) e
 
-pub lent-length : (rows : List ℕ) (k : ℕ) → length rows ≡ 4394 → k ≤ 12 → length (part rows (338 * k) 338) ≡ 338
-lent-length rows k long few = part-length rows (338 * k) 338 (omega arith)
+pub lent-length : (rows : List ℕ) (k : ℕ) → length rows ≡ 4459 → k ≤ 12 → length (part rows (343 * k) 343) ≡ 343
+lent-length rows k long few = part-length rows (343 * k) 343 (omega arith)
 
 -- the team of a row that is lent
-pub row-lent : (rows : List ℕ) (k : ℕ) → rowTeam (take (338 * k + 338 - 338 * k) (drop (338 * k) rows)) ≡ rowAt rows k
+pub row-lent : (rows : List ℕ) (k : ℕ) → rowTeam (take (343 * k + 343 - 343 * k) (drop (343 * k) rows)) ≡ rowAt rows k
 unfolding rowAt
 row-lent rows k = ap rowTeam (lent rows k)
+
+-- the pool's row, which is lent first of all
+pub pool-lent : (rows : List ℕ) → rowTeam (take (343 - 0) (drop 0 rows)) ≡ rowAt rows 0
+unfolding rowAt part
+pool-lent rows = refl
 
 -- a part of a list that is put back, with as many entries as it had
 module _ (l : List ℕ) (at many : ℕ) (fits : at + many ≤ length l) (ys : List ℕ) (long : length ys ≡ many) where
@@ -52,33 +57,33 @@ module _ (l : List ℕ) (at many : ℕ) (fits : at + many ≤ length l) (ys : Li
       ∙ getD-drop many (drop at l) j d ∙ getD-drop at l (many + j) d ∙ ap (λ (k : ℕ). getD l k d) e′
 
 -- one row of the table is put back
-module _ (rows : List ℕ) (k : ℕ) (long : length rows ≡ 4394) (few : k ≤ 12) (ys : List ℕ) (same : length ys ≡ 338) where
-  fits : 338 * k + 338 ≤ length rows
+module _ (rows : List ℕ) (k : ℕ) (long : length rows ≡ 4459) (few : k ≤ 12) (ys : List ℕ) (same : length ys ≡ 343) where
+  fits : 343 * k + 343 ≤ length rows
   fits = omega arith
 
   abbrev rows′ : List ℕ
-  rows′ = put rows (338 * k) 338 fits ys same
+  rows′ = put rows (343 * k) 343 fits ys same
 
   row-put : rowAt rows′ k ≡ rowTeam ys
   unfolding rowAt
-  row-put = ap rowTeam (put-part rows (338 * k) 338 fits ys same)
+  row-put = ap rowTeam (put-part rows (343 * k) 343 fits ys same)
 
   row-kept : (j : ℕ) → j ≤ 12 → j ≢ k → rowAt rows′ j ≡ rowAt rows j
   unfolding rowAt
   row-kept j few′ other =
-      ap rowTeam (part-is rows (338 * j) 338 (part rows′ (338 * j) 338) (omega arith) (part-length rows′ (338 * j) 338 (omega (arith, put-length rows (338 * k) 338 fits ys same)))
-      (λ i b. part-at rows′ (338 * j) 338 i 0 b ∙ apart i b (decLt j k)))
+      ap rowTeam (part-is rows (343 * j) 343 (part rows′ (343 * j) 343) (omega arith) (part-length rows′ (343 * j) 343 (omega (arith, put-length rows (343 * k) 343 fits ys same)))
+      (λ i b. part-at rows′ (343 * j) 343 i 0 b ∙ apart i b (decLt j k)))
     where
-      apart : (i : ℕ) → i < 338 → Dec (j < k) → getD rows′ (338 * j + i) 0 ≡ getD rows (338 * j + i) 0
-      apart i b (yes l) = put-before rows (338 * k) 338 fits ys same (338 * j + i) 0 (omega arith)
-      apart i b (no l) = put-after rows (338 * k) 338 fits ys same (338 * j + i) 0 (omega arith)
+      apart : (i : ℕ) → i < 343 → Dec (j < k) → getD rows′ (343 * j + i) 0 ≡ getD rows (343 * j + i) 0
+      apart i b (yes l) = put-before rows (343 * k) 343 fits ys same (343 * j + i) 0 (omega arith)
+      apart i b (no l) = put-after rows (343 * k) 343 fits ys same (343 * j + i) 0 (omega arith)
 
   -- the same, as the code puts it back
-  put-back : take (338 * k) rows ++ (ys ++ drop (338 * k + 338 - 338 * k) (drop (338 * k) rows)) ≡ rows′
-  put-back = let e : 338 * k + 338 - 338 * k ≡ 338 = omega arith in ap (λ (n : ℕ). take (338 * k) rows ++ (ys ++ drop n (drop (338 * k) rows))) e
+  put-back : take (343 * k) rows ++ (ys ++ drop (343 * k + 343 - 343 * k) (drop (343 * k) rows)) ≡ rows′
+  put-back = let e : 343 * k + 343 - 343 * k ≡ 343 = omega arith in ap (λ (n : ℕ). take (343 * k) rows ++ (ys ++ drop n (drop (343 * k) rows))) e
 
-  pub put-row : rowAt (take (338 * k) rows ++ (ys ++ drop (338 * k + 338 - 338 * k) (drop (338 * k) rows))) k ≡ rowTeam ys
+  pub put-row : rowAt (take (343 * k) rows ++ (ys ++ drop (343 * k + 343 - 343 * k) (drop (343 * k) rows))) k ≡ rowTeam ys
   put-row = ap (λ (l : List ℕ). rowAt l k) put-back ∙ row-put
 
-  pub put-other : (j : ℕ) → j ≤ 12 → j ≢ k → rowAt (take (338 * k) rows ++ (ys ++ drop (338 * k + 338 - 338 * k) (drop (338 * k) rows))) j ≡ rowAt rows j
+  pub put-other : (j : ℕ) → j ≤ 12 → j ≢ k → rowAt (take (343 * k) rows ++ (ys ++ drop (343 * k + 343 - 343 * k) (drop (343 * k) rows))) j ≡ rowAt rows j
   put-other j few′ other = ap (λ (l : List ℕ). rowAt l j) put-back ∙ row-kept j few′ other

@@ -10,23 +10,27 @@ use lib.ListN.{length, getD}
 use borrow.Author.Tests.{lt-ltb}
 use Rattle.matroid.specs.Taut.{and-left, and-right}
 use Rattle.matroid.specs.Set.{Set, _∩_, _∪_, size}
-use Rattle.matroid.specs.SetLaws.{size-none}
+use Rattle.matroid.specs.SetLaws.{size-none, within?}
 use Rattle.matroid.specs.Sum.{sum}
 use Rattle.matroid.specs.Search.{largest}
 use Rattle.matroid.specs.Matroid.{Matroid, worth}
+use Rattle.matroid.specs.Build.{restrict, contracted}
 use Rattle.matroid.specs.Division.{bundle, total}
 use Rattle.matroid.specs.Cuts.{cuts}
 use Rattle.matroid.specs.Share.{least, share}
 use Rattle.matroid.specs.Best.{best}
 use Rattle.matroid.proofs.Rank.{worth-same}
-use Rattle.sets.specs.Bits.{bit}
+use Rattle.matroid.proofs.Building.{worth-restrict}
+use Rattle.sets.specs.Bits.{bit, word}
 use Rattle.sets.proofs.Below.{bit-none}
-use Rattle.sets.proofs.Words.{bit-below}
+use Rattle.sets.proofs.Gathering.{bit-word}
 use Rattle.team.specs.declared.Team.{Team}
 use Rattle.team.specs.Team.{blankTeam}
+use Rattle.days.specs.Days.{always, within}
 use Rattle.caps.specs.Partition.{partition}
 use Rattle.loops.specs.Graphic.{graphic}
 use Rattle.kinds.specs.Teams.{kindMatroid}
+use Rattle.kinds.specs.declared.Valuation.{Valuation}
 use Rattle.kinds.specs.Valuations.{matroidOf, matroid-of, blankValuation}
 use Rattle.kinds.proofs.Contracting.{stands-empty, worth-above}
 use Rattle.plan.specs.declared.Reading.{Reading}
@@ -34,32 +38,32 @@ use Rattle.command.specs.Command.{commandAt}
 use Rattle.command.specs.Fault.{fault}
 use Rattle.command.specs.Carry.{changedTeam, changedState}
 use Rattle.plan.specs.Read.{readFrom, readPlan}
-use Rattle.plan.specs.Teams.{allBelow, teamMatroid, present, presentCount}
+use Rattle.plan.specs.Teams.{usable, teamMatroid, present, presentCount}
 
 -- ---- from a team's valuation to its tables
 
--- where every instrument is usable and none is glued, a set is worth what it is worth by the team's kind
-kind-worth : (m : ℕ) (team : Team) (S : Set) → worth (matroidOf m (record { team = team; usable = allBelow m; glued = 0 })) S ≡ worth (kindMatroid m team) S
-kind-worth m team S =
+-- where none is glued, a set is worth what its usable part is worth by the team's kind
+kind-worth : (m : ℕ) (team : Team) (usable : ℕ) (S : Set) → worth (matroidOf m (record { team = team; usable = usable; glued = 0 })) S ≡ worth (restrict (kindMatroid m team) (bit usable)) S
+kind-worth m team usable S =
     let M = kindMatroid m team in
-    let K = bit (allBelow m) in
+    let K = bit usable in
     let whole = (S ∩ K) ∪ bit 0 in
     let above = worth-above M (bit 0) K (stands-empty M 0 refl) S whole (worth M whole) (size m (bit 0)) (λ j. refl) refl refl in
     let none = ap (size m) (fun-ext bit-none) ∙ size-none m in
-    let same = worth-same M {S = whole} {S′ = S} (record { at = λ j l t. inside (S j) (rw (bit-none j, bit-below m j, lt-ltb j m l) at t) }) (record { at = λ j l t. rw (bit-none j, bit-below m j, lt-ltb j m l) (outside (S j) t) }) in
-    rw (matroid-of m (record { team = team; usable = allBelow m; glued = 0 })) (omega arith)
+    let same = worth-same M {S = whole} {S′ = S ∩ K} (record { at = λ j l t. inside (S j && K j) (rw (bit-none j) at t) }) (record { at = λ j l t. rw (bit-none j) (outside (S j && K j) t) }) in
+    rw (matroid-of m (record { team = team; usable = usable; glued = 0 }), worth-restrict M K S) (omega arith)
   where
-    inside : (b : Bool) → T ((b && true) || false) → T b
+    inside : (b : Bool) → T (b || false) → T b
     inside true t = t
     inside false t = t
 
-    outside : (b : Bool) → T b → T ((b && true) || false)
+    outside : (b : Bool) → T b → T (b || false)
     outside true t = t
     outside false t = t
 
--- the matroid of a team of the plan by its kind and tables, and the blank one of a team not in the plan
+-- the matroid of a team of the plan by its kind and tables and its usable instruments, and the blank one of a team not in the plan
 abbrev ownMatroid : (r : Reading) → ℕ → Matroid (r .m)
-ownMatroid r t = cond (ltb t (r .n)) (kindMatroid (r .m) (getD (r .teams) t blankTeam)) (matroidOf (r .m) blankValuation)
+ownMatroid r t = cond (ltb t (r .n)) (restrict (kindMatroid (r .m) (getD (r .teams) t blankTeam)) (bit (word (r .m) (usable r t)))) (matroidOf (r .m) blankValuation)
 
 -- values every set as the team's valuation does
 own-worth : (r : Reading) (t : ℕ) → worth (teamMatroid r t) ≡ worth (ownMatroid r t)
@@ -68,9 +72,12 @@ own-worth r t = fun-ext (λ S. go (ltb t (r .n)) S)
     team : Team
     team = getD (r .teams) t blankTeam
 
-    go : (b : Bool) (S : Set) → worth (matroidOf (r .m) (cond b (record { team = team; usable = allBelow (r .m); glued = 0 }) blankValuation)) S
-        ≡ worth (cond b (kindMatroid (r .m) team) (matroidOf (r .m) blankValuation)) S
-    go true S = kind-worth (r .m) team S
+    own : ℕ
+    own = word (r .m) (usable r t)
+
+    go : (b : Bool) (S : Set) → worth (matroidOf (r .m) (cond b (record { team = team; usable = own; glued = 0 }) blankValuation)) S
+        ≡ worth (cond b (restrict (kindMatroid (r .m) team) (bit own)) (matroidOf (r .m) blankValuation)) S
+    go true S = kind-worth (r .m) team own S
     go false S = refl
 
 -- ---- the cases
@@ -113,23 +120,23 @@ planA = 1 ∷ 1 ∷ 2 ∷ 3 ∷ 2 ∷ 6 ∷ 0 ∷ 1 ∷ 2 ∷ 6 ∷ 1 ∷ 1 ∷ 
 
 -- team 0: {0,1} is worth 1; team 1: {0} is worth 0; shares 1 and 0; best total 2
 planA-worth-0 : worthIn planA 0 3 ≡ 1
-unfolding worth bit readPlan readFrom commandAt fault changedTeam changedState decLe graphic
+unfolding worth bit readPlan readFrom commandAt fault changedTeam changedState decLe graphic within?
 planA-worth-0 = worth-by planA 0 3 1 refl
 
 planA-worth-1 : worthIn planA 1 1 ≡ 0
-unfolding worth bit readPlan readFrom commandAt fault changedTeam changedState decLe partition
+unfolding worth bit readPlan readFrom commandAt fault changedTeam changedState decLe partition within?
 planA-worth-1 = worth-by planA 1 1 0 refl
 
 planA-share-0 : shareIn planA 0 ≡ 1
-unfolding worth bit readPlan readFrom commandAt fault changedTeam changedState decLe graphic share
+unfolding worth bit readPlan readFrom commandAt fault changedTeam changedState decLe graphic share within?
 planA-share-0 = share-by planA 0 1 refl
 
 planA-share-1 : shareIn planA 1 ≡ 0
-unfolding worth bit readPlan readFrom commandAt fault changedTeam changedState decLe partition share
+unfolding worth bit readPlan readFrom commandAt fault changedTeam changedState decLe partition share within?
 planA-share-1 = share-by planA 1 0 refl
 
 planA-best : bestIn planA ≡ 2
-unfolding worth bit readPlan readFrom commandAt fault changedTeam changedState decLe partition graphic best
+unfolding worth bit readPlan readFrom commandAt fault changedTeam changedState decLe partition graphic best within?
 planA-best = best-by planA 2 refl
 
 -- spans 1-2, 2-3, 1-3, 9 channels: all three are worth 2
@@ -137,7 +144,7 @@ abbrev triangle9 : List ℕ
 triangle9 = 1 ∷ 1 ∷ 3 ∷ 3 ∷ 9 ∷ 6 ∷ 0 ∷ 1 ∷ 2 ∷ 6 ∷ 1 ∷ 2 ∷ 3 ∷ 6 ∷ 2 ∷ 1 ∷ 3 ∷ 7 ∷ []
 
 triangle9-worth : worthIn triangle9 0 7 ≡ 2
-unfolding worth bit readPlan readFrom commandAt fault changedTeam changedState decLe graphic
+unfolding worth bit readPlan readFrom commandAt fault changedTeam changedState decLe graphic within?
 triangle9-worth = worth-by triangle9 0 7 2 refl
 
 -- with 1 channel, 1
@@ -145,7 +152,7 @@ abbrev triangle1 : List ℕ
 triangle1 = 1 ∷ 1 ∷ 3 ∷ 3 ∷ 1 ∷ 6 ∷ 0 ∷ 1 ∷ 2 ∷ 6 ∷ 1 ∷ 2 ∷ 3 ∷ 6 ∷ 2 ∷ 1 ∷ 3 ∷ 7 ∷ []
 
 triangle1-worth : worthIn triangle1 0 7 ≡ 1
-unfolding worth bit readPlan readFrom commandAt fault changedTeam changedState decLe graphic
+unfolding worth bit readPlan readFrom commandAt fault changedTeam changedState decLe graphic within?
 triangle1-worth = worth-by triangle1 0 7 1 refl
 
 -- three gauges on one pair of joints, two such teams of 9 channels: share 1
@@ -153,11 +160,11 @@ abbrev parallel : List ℕ
 parallel = 1 ∷ 1 ∷ 3 ∷ 3 ∷ 9 ∷ 6 ∷ 0 ∷ 1 ∷ 2 ∷ 6 ∷ 1 ∷ 1 ∷ 2 ∷ 6 ∷ 2 ∷ 1 ∷ 2 ∷ 3 ∷ 9 ∷ 6 ∷ 0 ∷ 1 ∷ 2 ∷ 6 ∷ 1 ∷ 1 ∷ 2 ∷ 6 ∷ 2 ∷ 1 ∷ 2 ∷ 7 ∷ []
 
 parallel-share-0 : shareIn parallel 0 ≡ 1
-unfolding worth bit readPlan readFrom commandAt fault changedTeam changedState decLe graphic share
+unfolding worth bit readPlan readFrom commandAt fault changedTeam changedState decLe graphic share within?
 parallel-share-0 = share-by parallel 0 1 refl
 
 parallel-share-1 : shareIn parallel 1 ≡ 1
-unfolding worth bit readPlan readFrom commandAt fault changedTeam changedState decLe graphic share
+unfolding worth bit readPlan readFrom commandAt fault changedTeam changedState decLe graphic share within?
 parallel-share-1 = share-by parallel 1 1 refl
 
 -- instruments 0 to 2 in a class of cap 1, 3 in another of cap 1, 4 channels, two such teams: share 1
@@ -165,11 +172,11 @@ abbrev threes : List ℕ
 threes = 1 ∷ 1 ∷ 4 ∷ 2 ∷ 4 ∷ 4 ∷ 0 ∷ 1 ∷ 4 ∷ 1 ∷ 1 ∷ 5 ∷ 0 ∷ 0 ∷ 5 ∷ 1 ∷ 0 ∷ 5 ∷ 2 ∷ 0 ∷ 5 ∷ 3 ∷ 1 ∷ 2 ∷ 4 ∷ 4 ∷ 0 ∷ 1 ∷ 4 ∷ 1 ∷ 1 ∷ 5 ∷ 0 ∷ 0 ∷ 5 ∷ 1 ∷ 0 ∷ 5 ∷ 2 ∷ 0 ∷ 5 ∷ 3 ∷ 1 ∷ 7 ∷ []
 
 threes-share-0 : shareIn threes 0 ≡ 1
-unfolding worth bit readPlan readFrom commandAt fault changedTeam changedState decLe partition share
+unfolding worth bit readPlan readFrom commandAt fault changedTeam changedState decLe partition share within?
 threes-share-0 = share-by threes 0 1 refl
 
 threes-share-1 : shareIn threes 1 ≡ 1
-unfolding worth bit readPlan readFrom commandAt fault changedTeam changedState decLe partition share
+unfolding worth bit readPlan readFrom commandAt fault changedTeam changedState decLe partition share within?
 threes-share-1 = share-by threes 1 1 refl
 
 -- m = 0: every set is worth 0, whatever bits its word has, and the share is 0; of a CAPS team
@@ -177,15 +184,15 @@ abbrev noneCaps : List ℕ
 noneCaps = 1 ∷ 1 ∷ 0 ∷ 2 ∷ 9 ∷ 7 ∷ []
 
 noneCaps-worth-none : worthIn noneCaps 0 0 ≡ 0
-unfolding worth bit readPlan readFrom commandAt fault changedTeam changedState decLe partition
+unfolding worth bit readPlan readFrom commandAt fault changedTeam changedState decLe partition within?
 noneCaps-worth-none = worth-by noneCaps 0 0 0 refl
 
 noneCaps-worth-all : worthIn noneCaps 0 18446744073709551615 ≡ 0
-unfolding worth bit readPlan readFrom commandAt fault changedTeam changedState decLe partition
+unfolding worth bit readPlan readFrom commandAt fault changedTeam changedState decLe partition within?
 noneCaps-worth-all = worth-by noneCaps 0 18446744073709551615 0 refl
 
 noneCaps-share : shareIn noneCaps 0 ≡ 0
-unfolding worth bit readPlan readFrom commandAt fault changedTeam changedState decLe partition share
+unfolding worth bit readPlan readFrom commandAt fault changedTeam changedState decLe partition share within?
 noneCaps-share = share-by noneCaps 0 0 refl
 
 -- and of a LOOPS team
@@ -193,15 +200,15 @@ abbrev noneLoops : List ℕ
 noneLoops = 1 ∷ 1 ∷ 0 ∷ 3 ∷ 9 ∷ 7 ∷ []
 
 noneLoops-worth-none : worthIn noneLoops 0 0 ≡ 0
-unfolding worth bit readPlan readFrom commandAt fault changedTeam changedState decLe graphic
+unfolding worth bit readPlan readFrom commandAt fault changedTeam changedState decLe graphic within?
 noneLoops-worth-none = worth-by noneLoops 0 0 0 refl
 
 noneLoops-worth-all : worthIn noneLoops 0 18446744073709551615 ≡ 0
-unfolding worth bit readPlan readFrom commandAt fault changedTeam changedState decLe graphic
+unfolding worth bit readPlan readFrom commandAt fault changedTeam changedState decLe graphic within?
 noneLoops-worth-all = worth-by noneLoops 0 18446744073709551615 0 refl
 
 noneLoops-share : shareIn noneLoops 0 ≡ 0
-unfolding worth bit readPlan readFrom commandAt fault changedTeam changedState decLe graphic share
+unfolding worth bit readPlan readFrom commandAt fault changedTeam changedState decLe graphic share within?
 noneLoops-share = share-by noneLoops 0 0 refl
 
 -- 0 and 1 in classes 0 and 1, 2 and 3 in class 2, all caps 1, 2 channels: 2 for 0 and 3 for 1 each work alone, yet {2,3} does not stand
@@ -209,19 +216,19 @@ abbrev trap : List ℕ
 trap = 1 ∷ 1 ∷ 4 ∷ 2 ∷ 2 ∷ 4 ∷ 0 ∷ 1 ∷ 4 ∷ 1 ∷ 1 ∷ 4 ∷ 2 ∷ 1 ∷ 5 ∷ 0 ∷ 0 ∷ 5 ∷ 1 ∷ 1 ∷ 5 ∷ 2 ∷ 2 ∷ 5 ∷ 3 ∷ 2 ∷ 7 ∷ []
 
 trap-whole : worthIn trap 0 3 ≡ 2
-unfolding worth bit readPlan readFrom commandAt fault changedTeam changedState decLe partition
+unfolding worth bit readPlan readFrom commandAt fault changedTeam changedState decLe partition within?
 trap-whole = worth-by trap 0 3 2 refl
 
 trap-first : worthIn trap 0 6 ≡ 2
-unfolding worth bit readPlan readFrom commandAt fault changedTeam changedState decLe partition
+unfolding worth bit readPlan readFrom commandAt fault changedTeam changedState decLe partition within?
 trap-first = worth-by trap 0 6 2 refl
 
 trap-second : worthIn trap 0 9 ≡ 2
-unfolding worth bit readPlan readFrom commandAt fault changedTeam changedState decLe partition
+unfolding worth bit readPlan readFrom commandAt fault changedTeam changedState decLe partition within?
 trap-second = worth-by trap 0 9 2 refl
 
 trap-both : worthIn trap 0 12 ≡ 1
-unfolding worth bit readPlan readFrom commandAt fault changedTeam changedState decLe partition
+unfolding worth bit readPlan readFrom commandAt fault changedTeam changedState decLe partition within?
 trap-both = worth-by trap 0 12 1 refl
 
 -- a team that takes both instruments, and one that is away: its share is 2, where among two it would be 1
@@ -229,7 +236,7 @@ abbrev leave : List ℕ
 leave = 1 ∷ 1 ∷ 2 ∷ 2 ∷ 2 ∷ 4 ∷ 0 ∷ 2 ∷ 5 ∷ 0 ∷ 0 ∷ 5 ∷ 1 ∷ 0 ∷ 2 ∷ 0 ∷ 7 ∷ []
 
 leave-share : shareIn leave 0 ≡ 2
-unfolding worth bit readPlan readFrom commandAt fault changedTeam changedState decLe partition share
+unfolding worth bit readPlan readFrom commandAt fault changedTeam changedState decLe partition share within?
 leave-share = share-by leave 0 2 refl
 
 -- a team with channels is present, though it has named no instrument and every set is worth 0 to it
@@ -237,8 +244,59 @@ abbrev worthless : List ℕ
 worthless = 1 ∷ 1 ∷ 2 ∷ 2 ∷ 2 ∷ 4 ∷ 0 ∷ 2 ∷ 5 ∷ 0 ∷ 0 ∷ 5 ∷ 1 ∷ 0 ∷ 2 ∷ 1 ∷ 7 ∷ []
 
 worthless-share : shareIn worthless 0 ≡ 1
-unfolding worth bit readPlan readFrom commandAt fault changedTeam changedState decLe partition share
+unfolding worth bit readPlan readFrom commandAt fault changedTeam changedState decLe partition share within?
 worthless-share = share-by worthless 0 1 refl
+
+-- ---- loan days
+
+-- "An instrument can be in a team's independent set only if the team's days lie within its shelf days."
+in-days : (r : Reading) (t : ℕ) (S : Set) → t < r .n → teamMatroid r t .Indep S → (i : ℕ) → i < r .m → T (S i) → T (within (getD (r .days) t always) (getD (r .shelf) i always))
+in-days r t S l indep i b s =
+    let own = word (r .m) (usable r t) in
+    let v : Valuation = record { team = getD (r .teams) t blankTeam; usable = own; glued = 0 } in
+    let here : matroidOf (r .m) v .Indep S = rw (lt-ltb t (r .n) l) at indep in
+    let restricted : restrict (contracted (kindMatroid (r .m) (v .team)) (bit 0)) (bit own) .Indep S = rw (matroid-of (r .m) v) at here in
+    let there = restricted .1 .at i b s in
+    and-right (ltb i (r .m)) (usable r t i) (rw (bit-word (r .m) (usable r t) i) at there)
+
+-- one instrument, with a SHELF from a day below 256 to another, and a CAPS team that takes it, with such DAYS
+abbrev lent : (from to from′ to′ : ℕ) → List ℕ
+lent from to from′ to′ = 1 ∷ 1 ∷ 1 ∷ 10 ∷ 0 ∷ from ∷ 0 ∷ to ∷ 0 ∷ 2 ∷ 1 ∷ 11 ∷ from′ ∷ 0 ∷ to′ ∷ 0 ∷ 4 ∷ 0 ∷ 1 ∷ 5 ∷ 0 ∷ 0 ∷ 7 ∷ []
+
+-- equal ends are within; one day before them or after them is not
+lent-equal : worthIn (lent 5 9 5 9) 0 1 ≡ 1
+unfolding worth bit readPlan readFrom commandAt fault changedTeam changedState decLe partition within?
+lent-equal = worth-by (lent 5 9 5 9) 0 1 1 refl
+
+lent-early : worthIn (lent 5 9 4 9) 0 1 ≡ 0
+unfolding worth bit readPlan readFrom commandAt fault changedTeam changedState decLe partition within?
+lent-early = worth-by (lent 5 9 4 9) 0 1 0 refl
+
+lent-late : worthIn (lent 5 9 5 10) 0 1 ≡ 0
+unfolding worth bit readPlan readFrom commandAt fault changedTeam changedState decLe partition within?
+lent-late = worth-by (lent 5 9 5 10) 0 1 0 refl
+
+-- a team without DAYS, and a SHELF from day 0 to 65,280 and some days
+abbrev undated : (to : ℕ) → List ℕ
+undated to = 1 ∷ 1 ∷ 1 ∷ 10 ∷ 0 ∷ 0 ∷ 0 ∷ to ∷ 255 ∷ 2 ∷ 1 ∷ 4 ∷ 0 ∷ 1 ∷ 5 ∷ 0 ∷ 0 ∷ 7 ∷ []
+
+-- to 65,534 it is worthless to the team, to 65,535 usable
+undated-short : worthIn (undated 254) 0 1 ≡ 0
+unfolding worth bit readPlan readFrom commandAt fault changedTeam changedState decLe partition within?
+undated-short = worth-by (undated 254) 0 1 0 refl
+
+undated-whole : worthIn (undated 255) 0 1 ≡ 1
+unfolding worth bit readPlan readFrom commandAt fault changedTeam changedState decLe partition within?
+undated-whole = worth-by (undated 255) 0 1 1 refl
+
+-- a from that is its to is 17, at the offset of the command
+lent-none : (readPlan (lent 5 5 5 9) .refusal ≡ 17) × (readPlan (lent 5 5 5 9) .place ≡ 3)
+unfolding readPlan readFrom commandAt fault changedTeam changedState
+lent-none = (refl, refl)
+
+lent-no-days : (readPlan (lent 5 9 6 6) .refusal ≡ 17) × (readPlan (lent 5 9 6 6) .place ≡ 11)
+unfolding readPlan readFrom commandAt fault changedTeam changedState
+lent-no-days = (refl, refl)
 
 -- ---- sets that are no words
 
@@ -274,15 +332,15 @@ abbrev pub appendixD : List ℕ
 appendixD = 1 ∷ 1 ∷ 6 ∷ 2 ∷ 6 ∷ 4 ∷ 0 ∷ 1 ∷ 4 ∷ 1 ∷ 1 ∷ 4 ∷ 2 ∷ 2 ∷ 5 ∷ 0 ∷ 0 ∷ 5 ∷ 1 ∷ 0 ∷ 5 ∷ 2 ∷ 1 ∷ 5 ∷ 3 ∷ 1 ∷ 5 ∷ 4 ∷ 2 ∷ 5 ∷ 5 ∷ 2 ∷ 2 ∷ 6 ∷ 4 ∷ 0 ∷ 6 ∷ 5 ∷ 0 ∷ 0 ∷ 5 ∷ 1 ∷ 0 ∷ 5 ∷ 2 ∷ 0 ∷ 5 ∷ 3 ∷ 0 ∷ 5 ∷ 4 ∷ 0 ∷ 5 ∷ 5 ∷ 0 ∷ 7 ∷ []
 
 appendixD-share-0 : shareIn appendixD 0 ≡ 3
-unfolding worth bit readPlan readFrom commandAt fault changedTeam changedState decLe partition share
+unfolding worth bit readPlan readFrom commandAt fault changedTeam changedState decLe partition share within?
 appendixD-share-0 = share-by appendixD 0 3 refl
 
 appendixD-share-1 : shareIn appendixD 1 ≡ 3
-unfolding worth bit readPlan readFrom commandAt fault changedTeam changedState decLe partition share
+unfolding worth bit readPlan readFrom commandAt fault changedTeam changedState decLe partition share within?
 appendixD-share-1 = share-by appendixD 1 3 refl
 
 appendixD-best : bestIn appendixD ≡ 6
-unfolding worth bit readPlan readFrom commandAt fault changedTeam changedState decLe partition best
+unfolding worth bit readPlan readFrom commandAt fault changedTeam changedState decLe partition best within?
 appendixD-best = best-by appendixD 6 refl
 
 -- giving {4,5} and {0,1,2,3} has total 6
@@ -290,20 +348,31 @@ abbrev greedyD : ℕ → ℕ
 greedyD g = cond (ltb g 4) 1 0
 
 appendixD-total : total 2 (teamMatroid (readPlan appendixD)) greedyD ≡ 6
-unfolding worth bit readPlan readFrom commandAt fault changedTeam changedState decLe partition
+unfolding worth bit readPlan readFrom commandAt fault changedTeam changedState decLe partition within?
 appendixD-total = total-by appendixD greedyD ∙ refl
 
-pub appendixD-refusal : readPlan appendixD .refusal ≡ 0
+appendixD-refusal : readPlan appendixD .refusal ≡ 0
 unfolding readPlan readFrom commandAt fault changedTeam changedState
 appendixD-refusal = refl
 
-pub appendixD-m : readPlan appendixD .m ≡ 6
+appendixD-m : readPlan appendixD .m ≡ 6
 unfolding readPlan readFrom commandAt fault changedTeam changedState
 appendixD-m = refl
 
-pub appendixD-n : readPlan appendixD .n ≡ 2
+appendixD-n : readPlan appendixD .n ≡ 2
 unfolding readPlan readFrom commandAt fault changedTeam changedState
 appendixD-n = refl
+
+-- the reading, with its numbers written out
+abbrev pub appendixD-read : Reading
+appendixD-read =
+    let r = readPlan appendixD in
+    record { refusal = 0; place = r .place; m = 6; n = 2; teams = r .teams; shelf = r .shelf; days = r .days }
+
+pub appendixD-is : readPlan appendixD ≡ appendixD-read
+appendixD-is =
+    let r = readPlan appendixD in
+    λ j. record { refusal = appendixD-refusal j; place = r .place; m = appendixD-m j; n = appendixD-n j; teams = r .teams; shelf = r .shelf; days = r .days }
 
 -- both teams are present
 pub appendixD-present : (present (readPlan appendixD) 0 ≡ true) × (present (readPlan appendixD) 1 ≡ true)
@@ -312,47 +381,47 @@ appendixD-present = (refl, refl)
 
 -- what the sets of the sheet below are worth to the two teams
 pub appendixD-0-none : worthIn appendixD 0 0 ≡ 0
-unfolding worth bit readPlan readFrom commandAt fault changedTeam changedState decLe partition
+unfolding worth bit readPlan readFrom commandAt fault changedTeam changedState decLe partition within?
 appendixD-0-none = worth-by appendixD 0 0 0 refl
 
 pub appendixD-0-rest : worthIn appendixD 0 15 ≡ 2
-unfolding worth bit readPlan readFrom commandAt fault changedTeam changedState decLe partition
+unfolding worth bit readPlan readFrom commandAt fault changedTeam changedState decLe partition within?
 appendixD-0-rest = worth-by appendixD 0 15 2 refl
 
 pub appendixD-0-bundle : worthIn appendixD 0 48 ≡ 2
-unfolding worth bit readPlan readFrom commandAt fault changedTeam changedState decLe partition
+unfolding worth bit readPlan readFrom commandAt fault changedTeam changedState decLe partition within?
 appendixD-0-bundle = worth-by appendixD 0 48 2 refl
 
 pub appendixD-0-part-0 : worthIn appendixD 0 21 ≡ 3
-unfolding worth bit readPlan readFrom commandAt fault changedTeam changedState decLe partition
+unfolding worth bit readPlan readFrom commandAt fault changedTeam changedState decLe partition within?
 appendixD-0-part-0 = worth-by appendixD 0 21 3 refl
 
 pub appendixD-0-part-1 : worthIn appendixD 0 42 ≡ 3
-unfolding worth bit readPlan readFrom commandAt fault changedTeam changedState decLe partition
+unfolding worth bit readPlan readFrom commandAt fault changedTeam changedState decLe partition within?
 appendixD-0-part-1 = worth-by appendixD 0 42 3 refl
 
 pub appendixD-0-all : worthIn appendixD 0 63 ≡ 4
-unfolding worth bit readPlan readFrom commandAt fault changedTeam changedState decLe partition
+unfolding worth bit readPlan readFrom commandAt fault changedTeam changedState decLe partition within?
 appendixD-0-all = worth-by appendixD 0 63 4 refl
 
 pub appendixD-1-none : worthIn appendixD 1 0 ≡ 0
-unfolding worth bit readPlan readFrom commandAt fault changedTeam changedState decLe partition
+unfolding worth bit readPlan readFrom commandAt fault changedTeam changedState decLe partition within?
 appendixD-1-none = worth-by appendixD 1 0 0 refl
 
 pub appendixD-1-bundle : worthIn appendixD 1 15 ≡ 4
-unfolding worth bit readPlan readFrom commandAt fault changedTeam changedState decLe partition
+unfolding worth bit readPlan readFrom commandAt fault changedTeam changedState decLe partition within?
 appendixD-1-bundle = worth-by appendixD 1 15 4 refl
 
 pub appendixD-1-part-0 : worthIn appendixD 1 7 ≡ 3
-unfolding worth bit readPlan readFrom commandAt fault changedTeam changedState decLe partition
+unfolding worth bit readPlan readFrom commandAt fault changedTeam changedState decLe partition within?
 appendixD-1-part-0 = worth-by appendixD 1 7 3 refl
 
 pub appendixD-1-part-1 : worthIn appendixD 1 56 ≡ 3
-unfolding worth bit readPlan readFrom commandAt fault changedTeam changedState decLe partition
+unfolding worth bit readPlan readFrom commandAt fault changedTeam changedState decLe partition within?
 appendixD-1-part-1 = worth-by appendixD 1 56 3 refl
 
 pub appendixD-1-all : worthIn appendixD 1 63 ≡ 6
-unfolding worth bit readPlan readFrom commandAt fault changedTeam changedState decLe partition
+unfolding worth bit readPlan readFrom commandAt fault changedTeam changedState decLe partition within?
 appendixD-1-all = worth-by appendixD 1 63 6 refl
 
 -- the sheet of that division: total 6 with the bound of no instruments; share 3 with {0,1,2,3} and parts {0,2,4} and {1,3,5}; share 3 with no

@@ -13,7 +13,7 @@ use borrow.Author.Tests.{ne-eqb}
 use Rattle.matroid.specs.Set.{Set, one, size}
 use Rattle.matroid.specs.SetLaws.{size-change}
 use Rattle.matroid.proofs.Sets.{size-le}
-use Rattle.command.specs.declared.Command.the-variants.{Class}
+use Rattle.command.specs.declared.Command.the-variants.{Class, Days}
 use Rattle.team.specs.declared.Team.{Team}
 use Rattle.team.specs.Team.{capsKind, loopsKind, mountsKind, openedTeam}
 use Rattle.command.specs.Fault.{named}
@@ -98,6 +98,7 @@ opened-kept m kind channels cap k = record {
   second-long = refl;
   third-long = refl;
   fourth-long = refl;
+  days-long = refl;
   kind = k;
   instrument = λ i. rw (blank-entry i) unnamed;
 }
@@ -113,6 +114,22 @@ module _ (m : ℕ) (team : Team) (kept : ValidTeam m team) where
     second-long = kept .second-long;
     third-long = kept .third-long;
     fourth-long = kept .fourth-long;
+    days-long = kept .days-long;
+    kind = kept .kind;
+    instrument = kept .instrument;
+  }
+
+  -- the days are said
+  pub days-kept : (a b c d : ℕ) → ValidTeam m (changedTeam team (Days a b c d))
+  unfolding changedTeam
+  days-kept a b c d = record {
+    cap-long = kept .cap-long;
+    named-long = kept .named-long;
+    first-long = kept .first-long;
+    second-long = kept .second-long;
+    third-long = kept .third-long;
+    fourth-long = kept .fourth-long;
+    days-long = refl;
     kind = kept .kind;
     instrument = kept .instrument;
   }
@@ -126,6 +143,7 @@ module _ (m : ℕ) (team : Team) (kept : ValidTeam m team) where
     second-long = length-set (team .second) i b ∙ kept .second-long;
     third-long = length-set (team .third) i c ∙ kept .third-long;
     fourth-long = length-set (team .fourth) i d ∙ kept .fourth-long;
+    days-long = kept .days-long;
     kind = kept .kind;
     instrument = λ k. go k (ℕ-discrete k i);
   }

@@ -1,42 +1,53 @@
 -- The loop of `valuations_of`, and the matroids of the valuations.
-use Prim.Native.Nat.{ℕ, _^_, _≤_, _<_}
-use mathlib.Core.Path.{_≡_, sym, ap, _∙_}
+use Prim.Native.Nat.{ℕ, _≤_, _<_}
+use mathlib.Core.Path.{_≡_, refl, sym, ap, ap₂, _∙_}
+use mathlib.Core.Bool.{Bool, false, cond}
 use mathlib.Core.List.{List, [], _∷_}
 use native.Mathlib.Omega.{arith}
 use native.Mathlib.Decide.{decLt}
-use native.Mathlib.Nat.{lt-of-lt-of-le}
+use lib.Dec.{ltb}
 use lib.ListN.{length, getD, List·getD-eq-default}
-use lib.Pow.{ones-lt, pow-mono}
-use borrow.Author.Tests.{le-ltb}
-use Rattle.matroid.specs.Set.{under}
+use borrow.Author.Tests.{lt-ltb, le-ltb}
 use Rattle.matroid.specs.Cuts.{each}
-use Rattle.sets.specs.Bits.{bit}
-use Rattle.sets.proofs.Words.{bit-below}
+use Rattle.sets.specs.Bits.{word}
 use Rattle.sets.proofs.Lists.{getD-any}
-use Rattle.sets.proofs.Equal.{same-word}
 use Rattle.team.specs.declared.Team.{Team}
 use Rattle.team.specs.Team.{blankTeam}
+use Rattle.days.specs.declared.Days.{Days}
+use Rattle.days.specs.Days.{always, dated, usableOn}
+use Rattle.days.proofs.Holding.{undated}
 use Rattle.kinds.specs.declared.Valuation.{Valuation}
 use Rattle.kinds.specs.Valuations.{matroidOf, blankValuation, matroids}
 use Rattle.plan.specs.declared.Reading.{Reading}
-use Rattle.plan.specs.Teams.{allBelow, valuationOf, valuationsOf, teamMatroid}
+use Rattle.plan.specs.Teams.{usable, usableWords, valuationOf, valuationsOf, teamMatroid}
+use Rattle.plan.specs.Valid.{Valid}
 use Rattle.plan.proofs.Each.{each-length, each-at, Tabled, tabled-all}
 
--- the word of all instruments below m, by its members
-pub below-word : (m usable : ℕ) → m ≤ 64 → usable < 2 ^ 64 → ((j : ℕ) → bit usable j ≡ under m j) → usable ≡ allBelow m
-below-word m usable l fits is = same-word 64 usable (allBelow m) fits (lt-of-lt-of-le (ones-lt m) (pow-mono l)) (λ j. is j ∙ sym (bit-below m j))
+-- the word of a team's usable instruments, by its days as the code has them, and where it has none by those of every day
+module _ (shelf : List Days) (m : ℕ) (days : List Days) (t : ℕ) (own d : Days) (l : t < length days) (is-own : own ≡ getD days t d) where
+  pub word-own : (w : ℕ) → w ≡ word m (usableOn shelf own) → w ≡ word m (usableOn shelf (getD days t always))
+  word-own w e = e ∙ ap (λ (x : Days). word m (usableOn shelf x)) (is-own ∙ getD-any days t d always l)
 
--- the valuation of a team of the plan, by the table of teams
-abbrev pub valuedAt : List Team → (usable t : ℕ) → Valuation
-valuedAt teams usable t = record { team = getD teams t blankTeam; usable = usable; glued = 0 }
+  pub word-every : (w : ℕ) (every : Days) → w ≡ word m (usableOn shelf every) → every ≡ always → dated own ≡ false → w ≡ word m (usableOn shelf (getD days t always))
+  word-every w every e is none = word-own w (e ∙ ap (λ (x : Days). word m (usableOn shelf x)) (is ∙ sym (undated own none)))
 
-pub valued-at : (teams : List Team) (usable t : ℕ) (team d : Team) → t < length teams → team ≡ getD teams t d → record { team = team; usable = usable; glued = 0 } ≡ valuedAt teams usable t
-valued-at teams usable t team d l is = ap (λ (x : Team). record { team = x; usable = usable; glued = 0 }) (is ∙ getD-any teams t d blankTeam l)
+-- the valuation of a team of the plan
+abbrev pub valuedAt : Reading → ℕ → Valuation
+valuedAt r t = record { team = getD (r .teams) t blankTeam; usable = word (r .m) (usable r t); glued = 0 }
+
+-- as the code has it, by the team and the word of its usable instruments
+pub valued-at : (r : Reading) → Valid r → (t : ℕ) → t < r .n → (team d : Team) (words : List ℕ) → team ≡ getD (r .teams) t d → words ≡ usableWords (r .shelf) (r .m) (r .days) (r .n)
+    → record { team = team; usable = getD words t 0; glued = 0 } ≡ valuedAt r t
+valued-at r valid t l team d words is-team is-words =
+    let few = valid .few in
+    let teams-long = valid .teams-long in
+    let own = ap (λ (x : List ℕ). getD x t 0) is-words ∙ each-at (λ t. cond (ltb t (r .n)) (word (r .m) (usable r t)) 0) 0 12 t (omega arith) ∙ ap (λ (b : Bool). cond b (word (r .m) (usable r t)) 0) (lt-ltb t (r .n) l) in
+    ap₂ (λ (x : Team) (y : ℕ). record { team = x; usable = y; glued = 0 }) (is-team ∙ getD-any (r .teams) t d blankTeam (omega arith)) own
 
 -- the table that the loop has filled
-pub valued-all : (r : Reading) (usable : ℕ) (row : List Valuation) → usable ≡ allBelow (r .m) → Tabled (valuedAt (r .teams) usable) blankValuation (r .n) row → row ≡ valuationsOf r
+pub valued-all : (r : Reading) (row : List Valuation) → Tabled 12 (valuedAt r) blankValuation (r .n) row → row ≡ valuationsOf r
 unfolding valuationsOf
-valued-all r usable row e h = tabled-all (valuedAt (r .teams) (allBelow (r .m))) blankValuation (r .n) row (rw e at h)
+valued-all r row h = tabled-all 12 (valuedAt r) blankValuation (r .n) row h (valuationOf r) (λ t l. refl)
 
 -- the valuations' matroids are those of the teams
 pub valuation-at : (r : Reading) → r .n ≤ 12 → (t : ℕ) → getD (valuationsOf r) t blankValuation ≡ valuationOf r t

@@ -1,16 +1,19 @@
 -- Read (document 01): a plan file's meaning.
-use Prim.Native.Nat.{ℕ, zero, suc, _+_, _-_}
+use Prim.Native.Nat.{ℕ, zero, suc, _+_}
 use mathlib.Core.Bool.{true, false, cond}
-use mathlib.Core.List.{List}
+use mathlib.Core.List.{List, [], _∷_}
 use lib.Dec.{eqb, ltb}
 use lib.ListN.{length, getD, set, replicate}
+use Rattle.matroid.specs.Cuts.{each}
 use Rattle.plan.specs.declared.Reading.{Reading}
 use Rattle.command.specs.declared.State.{State}
 use Rattle.team.specs.declared.Team.{Team}
 use Rattle.command.specs.Command.{commandAt, bytesOf}
 use Rattle.command.specs.Fault.{fault, isEnd}
-use Rattle.command.specs.Carry.{start, openTeam, changedTeam, changedState}
+use Rattle.command.specs.Carry.{start, openTeam, changedTeam, changedState, daysOf, shelfOf}
 use Rattle.team.specs.Team.{blankTeam}
+use Rattle.days.specs.declared.Days.{Days}
+use Rattle.days.specs.Days.{always}
 
 -- a team in an answer that refuses
 abbrev pub zeroTeam : Team
@@ -23,39 +26,68 @@ zeroTeam = record {
   second = replicate 64 0;
   third = replicate 64 0;
   fourth = replicate 64 0;
+  days = replicate 5 0;
 }
+
+-- and its days
+abbrev pub zeroDays : Days
+zeroDays = record { from = 0; to = 0 }
 
 -- "A refusal answers its number and place; ... every other part of the answer is then 0."
 abbrev pub refused : (number place : ℕ) → Reading
-refused number place = record { refusal = number; place = place; m = 0; n = 0; teams = replicate 12 zeroTeam }
+refused number place = record {
+  refusal = number;
+  place = place;
+  m = 0;
+  n = 0;
+  teams = replicate 12 zeroTeam;
+  shelf = replicate 64 zeroDays;
+  days = replicate 12 zeroDays;
+}
 
--- "the answer is m, n and each team's kind and operands"
+-- of the rows that have been read, row 0 is the pool's and row n is that of the team opened n-th
+abbrev pub teamsOf : List Team → List Team
+teamsOf rows = each 12 (λ t. getD rows (t + 1) blankTeam ∷ [])
+
+-- the days of each team
+abbrev pub teamDays : List Team → List Days
+teamDays rows = each 12 (λ t. daysOf (getD rows (t + 1) blankTeam) ∷ [])
+
+-- the shelf days of each of m instruments, by the pool's row
+abbrev pub shelfDays : (m : ℕ) → Team → List Days
+shelfDays m pool = each 64 (λ i. cond (ltb i m) (shelfOf pool i) always ∷ [])
+
+-- "the answer is m, n and each team's kind and operands", and the shelf days of each instrument and the days of each team
 abbrev pub accepted : State → List Team → Reading
-accepted s teams = record { refusal = 0; place = 0; m = s .m; n = s .n; teams = teams }
+accepted s rows = record {
+  refusal = 0;
+  place = 0;
+  m = s .m;
+  n = s .n;
+  teams = teamsOf rows;
+  shelf = shelfDays (s .m) (getD rows 0 blankTeam);
+  days = teamDays rows;
+}
 
 -- at the offset of END: "bytes after END are 9", at "the first extra byte"
 abbrev pub finished : List ℕ → ℕ → State → List Team → Reading
-finished file at s teams = cond (ltb (at + 1) (length file)) (refused 9 (at + 1)) (accepted s teams)
-
--- the teams, with the open one as a command leaves it
-abbrev pub changedTeams : List Team → ℕ → Team → List Team
-changedTeams teams n team = cond (ltb 0 n) (set teams (n - 1) team) teams
+finished file at s rows = cond (ltb (at + 1) (length file)) (refused 9 (at + 1)) (accepted s rows)
 
 -- Reading from an offset on, by at most so many commands: "The first faulty command decides", "The place is the offset of the command". Where
 -- no END is among them: "No END is 2", at "the file's length".
 unfoldable pub readFrom : ℕ → List ℕ → ℕ → State → List Team → Reading
-readFrom zero file at s teams = refused 2 (length file)
-readFrom (suc k) file at s teams =
+readFrom zero file at s rows = refused 2 (length file)
+readFrom (suc k) file at s rows =
     let command = commandAt file at in
-    let team = openTeam teams (s .n) in
+    let team = openTeam rows (s .n) in
     let number = fault at s team command in
     elim (eqb number 0) [
       | false ↦ refused number at
       | true ↦ elim (isEnd command) [
-        | true ↦ finished file at s teams
+        | true ↦ finished file at s rows
         | false ↦
             let s′ = changedState s command in
-            readFrom k file (at + bytesOf command) s′ (changedTeams teams (s′ .n) (changedTeam team command))
+            readFrom k file (at + bytesOf command) s′ (set rows (s′ .n) (changedTeam team command))
       ]
     ]
 
@@ -63,5 +95,5 @@ readFrom (suc k) file at s teams =
 unfoldable pub readPlan : List ℕ → Reading
 readPlan file = elim (eqb (getD file 0 0) 1) [
   | false ↦ refused 1 0
-  | true ↦ readFrom (suc (length file)) file 0 start (replicate 12 blankTeam)
+  | true ↦ readFrom (suc (length file)) file 0 start (replicate 13 blankTeam)
 ]

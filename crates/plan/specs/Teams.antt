@@ -1,5 +1,5 @@
--- From a reading of a plan the matroid of each team (document 01, "Worth and share"), and which teams are present (document 02, note 2).
-use Prim.Native.Nat.{ℕ, _-_, _^_}
+-- From a reading of a plan the matroid of each team (document 01, "Worth and share"; document 02, note 4), and which teams are present (note 2).
+use Prim.Native.Nat.{ℕ}
 use mathlib.Core.Bool.{_&&_, cond}
 use mathlib.Core.List.{List, [], _∷_}
 use lib.Dec.{ltb}
@@ -7,19 +7,26 @@ use lib.ListN.{getD}
 use Rattle.matroid.specs.Set.{Set, size}
 use Rattle.matroid.specs.Matroid.{Matroid}
 use Rattle.matroid.specs.Cuts.{each}
+use Rattle.sets.specs.Bits.{word}
 use Rattle.team.specs.Team.{blankTeam}
+use Rattle.days.specs.declared.Days.{Days}
+use Rattle.days.specs.Days.{always, usableOn}
 use Rattle.kinds.specs.declared.Valuation.{Valuation}
 use Rattle.kinds.specs.Valuations.{matroidOf, blankValuation}
 use Rattle.plan.specs.declared.Reading.{Reading}
 
--- the word of the instruments below m
-abbrev pub allBelow : ℕ → ℕ
-allBelow m = 2 ^ m - 1
+-- "An instrument can be in a team's independent set only if the team's days lie within its shelf days"
+abbrev pub usable : Reading → ℕ → Set
+usable r t = usableOn (r .shelf) (getD (r .days) t always)
 
--- The valuation of team t: every instrument is usable, and none is glued. Beyond the last team it is of no kind:
+-- the words of these sets for the first n teams, and 0 beyond
+abbrev pub usableWords : (shelf : List Days) (m : ℕ) (days : List Days) (n : ℕ) → List ℕ
+usableWords shelf m days n = each 12 (λ t. cond (ltb t n) (word m (usableOn shelf (getD days t always))) 0 ∷ [])
+
+-- The valuation of team t: the instruments that its days allow are usable, and none is glued. Beyond the last team it is of no kind:
 -- "to a team not in the plan every set is worth 0".
 abbrev pub valuationOf : Reading → ℕ → Valuation
-valuationOf r t = cond (ltb t (r .n)) (record { team = getD (r .teams) t blankTeam; usable = allBelow (r .m); glued = 0 }) blankValuation
+valuationOf r t = cond (ltb t (r .n)) (record { team = getD (r .teams) t blankTeam; usable = word (r .m) (usable r t); glued = 0 }) blankValuation
 
 -- the valuations of the twelve places for teams
 unfoldable pub valuationsOf : Reading → List Valuation

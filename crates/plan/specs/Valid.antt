@@ -23,6 +23,7 @@ pub record ValidTeam (m : ℕ) (team : Team) : Type 0 where
   pub second-long : length (team .second) ≡ 64
   pub third-long : length (team .third) ≡ 64
   pub fourth-long : length (team .fourth) ≡ 64
+  pub days-long : length (team .days) ≡ 5
   -- the team is of a kind
   pub kind : (team .kind ≡ capsKind) ⊎ (team .kind ≡ loopsKind) ⊎ (team .kind ≡ mountsKind)
   -- and every instrument is named as a command of that kind of team names it, or not at all
@@ -31,6 +32,8 @@ pub record ValidTeam (m : ℕ) (team : Team) : Type 0 where
 -- an accepted reading: 1 to 12 teams, at most 64 instruments, and every team in order
 pub record Valid (r : Reading) : Type 0 where
   pub teams-long : length (r .teams) ≡ 12
+  pub shelf-long : length (r .shelf) ≡ 64
+  pub days-long : length (r .days) ≡ 12
   pub some : 1 ≤ r .n
   pub few : r .n ≤ 12
   pub small : r .m ≤ 64

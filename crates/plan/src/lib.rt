@@ -1,9 +1,10 @@
-// The plan file: commands of one byte with operands of one byte, read into twelve teams.
+// The plan file: commands of one byte with operands of one byte, read into the pool's shelf days and twelve teams with their days.
 ghost use mathlib.Core.Path.{_≡_};
+ghost use Prim.Native.Nat.{_≤_};
 ghost use lib.ListN.{length, getD};
 ghost use Rattle.team.specs.Team.{blankTeam};
-ghost use Rattle.plan.specs.Read.{readPlan, refused, finished};
-ghost use Rattle.plan.specs.Progress.{rowAt, Ended};
+ghost use Rattle.plan.specs.Read.{readPlan, refused, accepted, finished};
+ghost use Rattle.plan.specs.Progress.{rowAt, rowsIn, Ended};
 ghost use Rattle.sets.specs.Bits.{bit};
 ghost use Rattle.plan.specs.Teams.{valuationsOf, present};
 ghost use Rattle.plan.specs.Valid.{Valid};
@@ -12,11 +13,15 @@ use command::State;
 use command::carry;
 use command::decode;
 use command::reader::Reader;
+use command::row;
+use days::Days;
 use kinds::Valuation;
 use step::Progress;
 use team::Team;
 
+mod parts;
 mod step;
+mod usable;
 
 // What reading a file comes to. After a refusal all but its number and place is 0.
 pub struct Reading {
@@ -25,6 +30,10 @@ pub struct Reading {
     pub m: usize,
     pub n: usize,
     pub teams: [Team; 12],
+    // the shelf days of each instrument
+    pub shelf: [Days; 64],
+    // the days of each team
+    pub days: [Days; 12],
 }
 
 // The answer to a file that is refused.
@@ -40,38 +49,56 @@ fn refuse(refusal: usize, place: usize) -> Reading
         second: [0u8; 64],
         third: [0u8; 64],
         fourth: [0u8; 64],
+        days: [0u8; 5],
     };
+    let none = Days { from: 0, to: 0 };
     Reading {
         refusal,
         place,
         m: 0,
         n: 0,
         teams: [zero; 12],
+        shelf: [none; 64],
+        days: [none; 12],
     }
 }
 
-// The answer at the offset of an END that stands in its place.
-fn finish(file: &[u8], at: usize, s: State, teams: [Team; 12]) -> Reading
-    ensures { λ r. ⌜ r ≡ finished (now (file .entry)) at s teams ⌝ }
+// The answer to a file that is accepted, by the table of rows.
+fn accept(s: State, rows: &[u8]) -> Reading
+    requires { ⌜ (length (now rows) ≡ 4459) × (s .n ≤ 12) × (s .m ≤ 64) ⌝ }
+    ensures { λ r. ⌜ r ≡ accepted s (rowsIn (now (rows .entry)) (s .n)) ⌝ }
 {
-    if at < file.len() {
-        if at + 1 < file.len() {
-            return refuse(9, at + 1);
-        }
-    }
+    let teams = parts::teams(rows, s.n);
+    let days = parts::days(rows, s.n);
+    let shelf = parts::shelf(&rows[0..row::WIDTH], s.m);
     Reading {
         refusal: 0,
         place: 0,
         m: s.m,
         n: s.n,
         teams,
+        shelf,
+        days,
     }
 }
 
-// Reads the commands of a file whose first byte is 01 into rows of teams: a reader hands out one after another, until one breaks a rule or is
+// The answer at the offset of an END that stands in its place.
+fn finish(file: &[u8], at: usize, s: State, rows: &[u8]) -> Reading
+    requires { ⌜ (length (now rows) ≡ 4459) × (s .n ≤ 12) × (s .m ≤ 64) ⌝ }
+    ensures { λ r. ⌜ r ≡ finished (now (file .entry)) at s (rowsIn (now (rows .entry)) (s .n)) ⌝ }
+{
+    if at < file.len() {
+        if at + 1 < file.len() {
+            return refuse(9, at + 1);
+        }
+    }
+    accept(s, rows)
+}
+
+// Reads the commands of a file whose first byte is 01 into the table of rows: a reader hands out one after another, until one breaks a rule or is
 // an END in its place. It holds the reader, so it is proved by hand, and `step` does the work.
 fn read_commands(file: &[u8], rows: &mut [u8]) -> Progress
-    requires { ⌜ (getD (now file) 0 0 ≡ 1) × (length (now rows) ≡ 4394) × (rowAt (now rows) 0 ≡ blankTeam) ⌝ }
+    requires { ⌜ (getD (now file) 0 0 ≡ 1) × (length (now rows) ≡ 4459) × (rowAt (now rows) 0 ≡ blankTeam) ⌝ }
     ensures { λ r. ⌜ Ended (now (file .entry)) r (now (rows .exit)) ⌝ }
 {
     let mut reader = Reader::new(file);
@@ -100,17 +127,18 @@ pub fn read(file: &[u8]) -> Reading
     step::answer(file, p, &rows)
 }
 
-// The valuation of each team of a plan, and one of no kind beyond the last.
+// The valuation of each team of a plan, and one of no kind beyond the last. Which instruments a team can use is found here, once.
 pub fn valuations_of(r: Reading) -> [Valuation; 12]
     requires { ⌜ Valid r ⌝ }
     ensures { λ v. ⌜ v ≡ valuationsOf r ⌝ }
 {
     let n = r.n;
-    let usable = sets::all_below(r.m);
+    let words = usable::words(r.shelf, r.m, r.days, n);
     let none = kinds::blank();
     let mut valuations = [none; 12];
     for t in 0..n {
         let team = r.teams[t];
+        let usable = words[t];
         valuations[t] = Valuation {
             team,
             usable,

@@ -1,18 +1,17 @@
-// Reading, one command at a time. The teams stand in a table of thirteen rows: row 0 stays blank, and row n is the team opened n-th, so that a
-// command changes the open team where it stands.
+// Reading, one command at a time. A table of thirteen rows has the pool's in row 0 and the team opened n-th in row n, so that a command changes
+// the open row where it stands.
 ghost use mathlib.Core.Path.{_≡_};
 ghost use Prim.Native.Nat.{_≤_};
 ghost use lib.ListN.{length};
-ghost use Rattle.plan.specs.Progress.{Followed, teamsIn, answered};
+ghost use Rattle.plan.specs.Progress.{Followed, answered};
 use super::Reading;
 use command::Command;
 use command::State;
 use command::carry;
 use command::judge;
 use command::row;
-use team::Team;
 
-// How many bytes the table of thirteen rows has: 4,394.
+// How many bytes the table of thirteen rows has: 4,459.
 pub const TABLE: usize = 13 * row::WIDTH;
 
 // What has been read besides the teams; where reading has stopped, the rule that is broken (0: none, at an END) and the offset.
@@ -25,7 +24,7 @@ pub struct Progress {
 
 // Follows a command at an offset: reading stops there, or the command is carried out.
 pub fn follow(rows: &mut [u8], s: State, at: usize, command: Command) -> Progress
-    requires { ⌜ (length (now rows) ≡ 4394) × (s .n ≤ 12) ⌝ }
+    requires { ⌜ (length (now rows) ≡ 4459) × (s .n ≤ 12) ⌝ }
     ensures { λ r. ⌜ Followed (now (rows .entry)) at s command r (now (rows .exit)) ⌝ }
 {
     let open = row::WIDTH * s.n;
@@ -57,28 +56,13 @@ pub fn follow(rows: &mut [u8], s: State, at: usize, command: Command) -> Progres
     }
 }
 
-// The teams of the first n rows after the blank one, and blank ones beyond.
-fn teams(rows: &[u8], n: usize) -> [Team; 12]
-    requires { ⌜ (length (now rows) ≡ 4394) × (n ≤ 12) ⌝ }
-    ensures { λ r. ⌜ r ≡ teamsIn (now (rows .entry)) n ⌝ }
-{
-    let mut teams = [team::blank(); 12];
-    for t in 0..n {
-        let start = row::WIDTH * (t + 1);
-        let end = start + row::WIDTH;
-        let team = row::team(&rows[start..end]);
-        teams[t] = team;
-    }
-    teams
-}
-
 // The answer where reading has stopped.
 pub fn answer(file: &[u8], p: Progress, rows: &[u8]) -> Reading
-    requires { ⌜ (length (now rows) ≡ 4394) × (p .s .n ≤ 12) ⌝ }
+    requires { ⌜ (length (now rows) ≡ 4459) × (p .s .n ≤ 12) × (p .s .m ≤ 64) ⌝ }
     ensures { λ r. ⌜ r ≡ answered (now (file .entry)) p (now (rows .entry)) ⌝ }
 {
     if p.fault != 0 {
         return super::refuse(p.fault, p.at);
     }
-    super::finish(file, p.at, p.s, teams(rows, p.s.n))
+    super::finish(file, p.at, p.s, rows)
 }

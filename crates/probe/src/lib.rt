@@ -68,16 +68,19 @@ fn count_of(r: Reading) -> usize
     if r.m < 64 { r.m } else { 64 }
 }
 
-// The valuation of a team of a reading, and one of no kind where there is none.
+// The valuation of a team of a reading on its days, and one of no kind where there is none.
 fn valuation_of(r: Reading, team: u64) -> Valuation {
     let teams = r.teams;
+    let shelf = r.shelf;
+    let table = r.days;
     if team >= 12 {
         return kinds::blank();
     }
     let own = teams[team as usize];
+    let wanted = table[team as usize];
     Valuation {
         team: own,
-        usable: sets::all_below(count_of(r)),
+        usable: days::usable(shelf, count_of(r), wanted),
         glued: 0,
     }
 }

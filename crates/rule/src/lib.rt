@@ -4,7 +4,8 @@
 ghost use Prim.Native.Nat.{_≤_};
 use team::Team;
 
-mod mounts;
+mod hall;
+pub mod loan;
 
 // The members of a set that are of a class.
 fn of_class(class: [u8; 64], set: u64, c: usize) -> u64 {
@@ -156,7 +157,7 @@ pub fn independent(team: Team, set: u64) -> bool {
     match kind {
         2 => caps_allow(team, set),
         3 => loops_allow(team, set),
-        8 => mounts::allow(team, set),
+        8 => hall::allow(team, set),
         _ => set == 0,
     }
 }

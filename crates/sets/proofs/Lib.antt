@@ -3,6 +3,7 @@ pub mod Tests
 pub mod Words
 pub mod Trailing
 pub mod Equal
+pub mod Gathering
 pub mod Below
 pub mod Members
 pub mod Growing

@@ -24,7 +24,7 @@ fn dependent(table: [u8; 128], bundles: [u64; 4]) -> u64 {
 }
 
 // How many of four shares are not what they should be.
-fn different(shares: [u64; 4], best: [u64; 4]) -> u64 {
+pub fn different(shares: [u64; 4], best: [u64; 4]) -> u64 {
     let mut count: u64 = 0;
     for t in 0..4usize {
         if shares[t] != best[t] {

@@ -2,7 +2,8 @@
 use lines::print;
 use std::num::wrapping_add_u64;
 
-// What is counted. In the first group are the plans, in the second the sheets that Build writes, in the third sheets with one byte changed.
+// What is counted. In the first group are the plans, in the second their loan days, in the third the sheets that Build writes, in the fourth
+// sheets with one byte changed.
 pub struct Counts {
     pub plans: u64,
     // plans with a team away, and with no team present
@@ -17,6 +18,16 @@ pub struct Counts {
     pub apart: u64,
     // teams whose share among p is not that among n
     pub raised: u64,
+
+    // pairs of a team and an instrument that it cannot use on its days
+    pub barred: u64,
+    // pairs where the team's days lie within the shelf days and have an end with them
+    pub level: u64,
+    // pairs where they do not, but would with one shelf day more at each end
+    pub near: u64,
+    // shares and totals that are not those without SHELFs
+    pub lower_shares: u64,
+    pub lower_totals: u64,
 
     // sheets that Check accepts
     pub accepted: u64,
@@ -58,6 +69,11 @@ pub fn none() -> Counts {
         short_best: 0,
         apart: 0,
         raised: 0,
+        barred: 0,
+        level: 0,
+        near: 0,
+        lower_shares: 0,
+        lower_totals: 0,
         accepted: 0,
         totals: 0,
         shares: 0,
@@ -91,6 +107,11 @@ pub fn plus(a: Counts, b: Counts) -> Counts {
         short_best: wrapping_add_u64(a.short_best, b.short_best),
         apart: wrapping_add_u64(a.apart, b.apart),
         raised: wrapping_add_u64(a.raised, b.raised),
+        barred: wrapping_add_u64(a.barred, b.barred),
+        level: wrapping_add_u64(a.level, b.level),
+        near: wrapping_add_u64(a.near, b.near),
+        lower_shares: wrapping_add_u64(a.lower_shares, b.lower_shares),
+        lower_totals: wrapping_add_u64(a.lower_totals, b.lower_totals),
         accepted: wrapping_add_u64(a.accepted, b.accepted),
         totals: wrapping_add_u64(a.totals, b.totals),
         shares: wrapping_add_u64(a.shares, b.shares),
@@ -145,7 +166,17 @@ fn show_changed(c: Counts) {
     print::text(b"\n");
 }
 
-// The three groups.
+// The loan days, on a line.
+pub fn show_days(c: Counts) {
+    print::marked(b"  a team and an instrument: out of its days ", c.barred);
+    print::marked(b", by one day ", c.near);
+    print::marked(b", within with an equal end ", c.level);
+    print::marked(b"; other than without SHELF: shares ", c.lower_shares);
+    print::marked(b", totals ", c.lower_totals);
+    print::text(b"\n");
+}
+
+// The other three groups.
 pub fn show(c: Counts) {
     show_plans(c);
     show_sheets(c);

@@ -30,10 +30,11 @@ struct DrawnTeam {
     x: u64,
 }
 
-// A plan, and the last number drawn for it.
+// A plan, and the last number drawn for it. In the pool SHELFs name the instruments as FITs do in a MOUNTS team.
 pub struct Drawing {
     pub m: usize,
     pub n: usize,
+    pub pool: Team,
     pub teams: [Team; 3],
     pub x: u64,
 }
@@ -130,6 +131,7 @@ fn of_kind(f: Family, kind: u8, x: u64) -> DrawnTeam {
         second,
         third,
         fourth,
+        days: [255u8; 5],
     };
     DrawnTeam { team, x: z }
 }
@@ -164,7 +166,7 @@ fn teams(byte: u8) -> usize
     byte as usize
 }
 
-// A plan of a family, drawn after x: up to 5 instruments and 1 to 3 teams.
+// A plan of a family, drawn after x: up to 5 instruments and 1 to 3 teams, with no SHELF and no DAYS.
 pub fn drawn(f: Family, x: u64) -> Drawing
     ensures { λ r. ⌜ (r .m ≤ 5) × (1 ≤ r .n) × (r .n ≤ 3) ⌝ }
 {
@@ -182,6 +184,7 @@ pub fn drawn(f: Family, x: u64) -> Drawing
     Drawing {
         m: instruments(pick(y, counts)),
         n: teams(pick(z, sizes)),
+        pool: team::blank(),
         teams: list,
         x: z,
     }

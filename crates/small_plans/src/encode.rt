@@ -1,12 +1,12 @@
-// A drawn plan as the bytes of a plan file, in a space of 128 bytes. Each function writes at an offset and answers the next one; a full
+// A drawn plan as the bytes of a plan file, in a space of 160 bytes. Each function writes at an offset and answers the next one; a full
 // space takes no byte more.
 ghost use Prim.Native.Nat.{_≤_};
 use crate::draw::Drawing;
 use team::Team;
 
 // One byte.
-fn byte(out: &mut [u8; 128], at: usize, value: u8) -> usize {
-    if at < 128 {
+fn byte(out: &mut [u8; 160], at: usize, value: u8) -> usize {
+    if at < 160 {
         out[at] = value;
         return at + 1;
     }
@@ -14,19 +14,19 @@ fn byte(out: &mut [u8; 128], at: usize, value: u8) -> usize {
 }
 
 // Two bytes.
-fn two(out: &mut [u8; 128], at: usize, a: u8, b: u8) -> usize {
+fn two(out: &mut [u8; 160], at: usize, a: u8, b: u8) -> usize {
     let next = byte(out, at, a);
     byte(out, next, b)
 }
 
 // Three bytes.
-fn three(out: &mut [u8; 128], at: usize, a: u8, b: u8, c: u8) -> usize {
+fn three(out: &mut [u8; 160], at: usize, a: u8, b: u8, c: u8) -> usize {
     let next = two(out, at, a, b);
     byte(out, next, c)
 }
 
 // A CLASS for each of classes 0 to 3.
-fn classes(out: &mut [u8; 128], at: usize, cap: [u8; 16]) -> usize {
+fn classes(out: &mut [u8; 160], at: usize, cap: [u8; 16]) -> usize {
     let mut end = at;
     for c in 0..4usize {
         end = three(out, end, 4, c as u8, cap[c]);
@@ -35,7 +35,7 @@ fn classes(out: &mut [u8; 128], at: usize, cap: [u8; 16]) -> usize {
 }
 
 // A PUT for each of m instruments that is in a class.
-fn puts(out: &mut [u8; 128], at: usize, m: usize, class: [u8; 64]) -> usize
+fn puts(out: &mut [u8; 160], at: usize, m: usize, class: [u8; 64]) -> usize
     requires { ⌜ m ≤ 5 ⌝ }
 {
     let mut end = at;
@@ -49,7 +49,7 @@ fn puts(out: &mut [u8; 128], at: usize, m: usize, class: [u8; 64]) -> usize
 }
 
 // A SPAN for each of m instruments that has joints.
-fn spans(out: &mut [u8; 128], at: usize, m: usize, first: [u8; 64], second: [u8; 64]) -> usize
+fn spans(out: &mut [u8; 160], at: usize, m: usize, first: [u8; 64], second: [u8; 64]) -> usize
     requires { ⌜ m ≤ 5 ⌝ }
 {
     let mut end = at;
@@ -64,8 +64,8 @@ fn spans(out: &mut [u8; 128], at: usize, m: usize, first: [u8; 64], second: [u8;
     end
 }
 
-// A FIT for each of m instruments that a FIT names.
-fn fits(out: &mut [u8; 128], at: usize, m: usize, t: Team) -> usize
+// A FIT for each of m instruments that a FIT names, or a SHELF, by the byte of the command.
+fn fits(out: &mut [u8; 160], at: usize, m: usize, t: Team, command: u8) -> usize
     requires { ⌜ m ≤ 5 ⌝ }
 {
     let named = t.named;
@@ -75,8 +75,8 @@ fn fits(out: &mut [u8; 128], at: usize, m: usize, t: Team) -> usize
     let fourth = t.fourth;
     let mut end = at;
     for g in 0..m {
-        if named[g] == 9 {
-            let next = two(out, end, 9, g as u8);
+        if named[g] == command {
+            let next = two(out, end, command, g as u8);
             let half = two(out, next, first[g], second[g]);
             end = two(out, half, third[g], fourth[g]);
         }
@@ -84,32 +84,56 @@ fn fits(out: &mut [u8; 128], at: usize, m: usize, t: Team) -> usize
     end
 }
 
-// A team.
-fn team(out: &mut [u8; 128], at: usize, m: usize, t: Team) -> usize
+// The DAYS of a team that has one.
+fn days(out: &mut [u8; 160], at: usize, t: Team) -> usize {
+    let bytes = t.days;
+    if bytes[0] != 11 {
+        return at;
+    }
+    let next = three(out, at, 11, bytes[1], bytes[2]);
+    two(out, next, bytes[3], bytes[4])
+}
+
+// What names the instruments of a team.
+fn instruments(out: &mut [u8; 160], at: usize, m: usize, t: Team) -> usize
     requires { ⌜ m ≤ 5 ⌝ }
 {
     let cap = t.cap;
     let first = t.first;
     let second = t.second;
-    let open = two(out, at, t.kind, t.channels);
     if t.kind == 2 {
-        let next = classes(out, open, cap);
+        let next = classes(out, at, cap);
         return puts(out, next, m, first);
     }
     if t.kind == 3 {
-        return spans(out, open, m, first, second);
+        return spans(out, at, m, first, second);
     }
-    fits(out, open, m, t)
+    fits(out, at, m, t, 9)
+}
+
+// A team. Where its channels are even its DAYS comes first, and else last.
+fn team(out: &mut [u8; 160], at: usize, m: usize, t: Team) -> usize
+    requires { ⌜ m ≤ 5 ⌝ }
+{
+    let open = two(out, at, t.kind, t.channels);
+    if t.channels % 2 == 0 {
+        let next = days(out, open, t);
+        return instruments(out, next, m, t);
+    }
+    let next = instruments(out, open, m, t);
+    days(out, next, t)
 }
 
 // A whole plan: the answer is how many bytes it has.
-pub fn plan(out: &mut [u8; 128], d: Drawing) -> usize
+pub fn plan(out: &mut [u8; 160], d: Drawing) -> usize
     requires { ⌜ (d .m ≤ 5) × (d .n ≤ 3) ⌝ }
 {
     let m = d.m;
     let n = d.n;
+    let pool = d.pool;
     let teams = d.teams;
-    let mut end = three(out, 0, 1, 1, m as u8);
+    let start = three(out, 0, 1, 1, m as u8);
+    let mut end = fits(out, start, m, pool, 10);
     for t in 0..n {
         let one = teams[t];
         end = team(out, end, m, one);

@@ -1,8 +1,9 @@
-// Random plans of up to five instruments and three teams, about one team in four away: Build's sheets, and what Check says of them and of
-// changed ones, beside a search through all divisions and all cuts.
+// Random plans of up to five instruments and three teams, about one team in four away, without loan days and with them: Build's sheets, and
+// what Check says of them and of changed ones, beside a search through all divisions and all cuts.
 use counts::Counts;
 use draw::Family;
 use lines::print;
+use loan::Ends;
 
 mod away;
 mod changes;
@@ -11,7 +12,9 @@ mod counts;
 mod cuts;
 mod draw;
 mod encode;
+mod ends;
 mod exhaust;
+mod loan;
 mod present;
 mod stated;
 mod trial;
@@ -75,6 +78,40 @@ fn uneven() -> Family {
     f
 }
 
+// Days 0 to 9: most ends of the teams' days are shelf ends, or one day off.
+fn few() -> Ends {
+    Ends {
+        shelf: [10, 10, 10, 10, 10, 10, 10, 255],
+        shelf_from: [0, 0, 1, 1, 2, 2, 3, 4],
+        shelf_to: [5, 6, 6, 7, 7, 8, 8, 9],
+        days: [11, 11, 11, 11, 11, 11, 11, 255],
+        from: [1, 2, 2, 3, 3, 3, 4, 4],
+        to: [4, 5, 5, 6, 6, 7, 7, 8],
+    }
+}
+
+// Days about 255, 512 and 767, in which both bytes count.
+fn wide() -> Ends {
+    let mut e = few();
+    e.shelf_from = [0, 1, 254, 255, 255, 256, 256, 257];
+    e.shelf_to = [512, 513, 513, 767, 768, 768, 769, 65535];
+    e.from = [255, 255, 256, 256, 257, 258, 511, 512];
+    e.to = [511, 512, 512, 513, 767, 768, 769, 1024];
+    e
+}
+
+// Days about 0 and 65,535, more than half of the teams with no DAYS.
+fn open() -> Ends {
+    let mut e = few();
+    e.shelf = [10, 10, 10, 10, 10, 255, 255, 255];
+    e.shelf_from = [0, 0, 0, 0, 0, 0, 1, 2];
+    e.shelf_to = [65535, 65535, 65535, 65535, 65534, 65534, 65533, 1];
+    e.days = [11, 11, 11, 11, 255, 255, 255, 255];
+    e.from = [0, 0, 0, 1, 1, 2, 65533, 65534];
+    e.to = [65535, 65535, 65534, 65534, 65533, 65533, 65535, 1];
+    e
+}
+
 // The counts of 1,000 plans of a family.
 fn counted(f: Family, seed: u64) -> Counts {
     let mut c = counts::none();
@@ -83,6 +120,19 @@ fn counted(f: Family, seed: u64) -> Counts {
         let d = draw::drawn(f, x);
         x = d.x;
         c = counts::plus(c, trial::run(d));
+    }
+    c
+}
+
+// The counts of 1,000 plans of a family with loan days.
+fn counted_lent(f: Family, e: Ends, seed: u64) -> Counts {
+    let mut c = counts::none();
+    let mut x = seed;
+    for k in 0..1000usize {
+        let d = loan::lent(draw::drawn(f, x), e);
+        x = d.x;
+        c = counts::plus(c, trial::run(d));
+        c = counts::plus(c, ends::of_plan(d));
     }
     c
 }
@@ -96,7 +146,54 @@ fn run(name: &[u8], f: Family, seed: u64, before: Counts) -> Counts {
     counts::plus(before, c)
 }
 
-// Six families of plans, and the counts of all together.
+// The same for a family with loan days.
+fn run_lent(name: &[u8], f: Family, e: Ends, seed: u64, before: Counts) -> Counts {
+    let c = counted_lent(f, e, seed);
+    print::text(name);
+    print::text(b"\n");
+    counts::show(c);
+    counts::show_days(c);
+    counts::plus(before, c)
+}
+
+// Six families of plans with loan days, and the counts of all together.
+fn lent() {
+    let a = run_lent(
+        b"CAPS teams with loan days",
+        caps(),
+        few(),
+        20207,
+        counts::none(),
+    );
+    let b = run_lent(b"LOOPS teams with loan days", loops(), few(), 20208, a);
+    let c = run_lent(b"MOUNTS teams with loan days", masks(), few(), 20209, b);
+    let d = run_lent(
+        b"teams of every kind with loan days of two bytes",
+        mixed(),
+        wide(),
+        20210,
+        c,
+    );
+    let e = run_lent(
+        b"uneven teams with loan days of two bytes",
+        uneven(),
+        wide(),
+        20211,
+        d,
+    );
+    let f = run_lent(
+        b"uneven teams, more than half of them without DAYS",
+        uneven(),
+        open(),
+        20212,
+        e,
+    );
+    print::text(b"all with loan days\n");
+    counts::show(f);
+    counts::show_days(f);
+}
+
+// Six families of plans without loan days, and the counts of all together; then those with loan days.
 fn main() {
     let a = run(b"CAPS teams", caps(), 20201, counts::none());
     let b = run(b"LOOPS teams", loops(), 20202, a);
@@ -111,4 +208,5 @@ fn main() {
     let f = run(b"uneven teams", uneven(), 20206, e);
     print::text(b"all\n");
     counts::show(f);
+    lent();
 }

@@ -36,7 +36,7 @@ fn of_sheet(f: Found, plan: &[u8], space: &[u8; 128], long: usize) -> Counts
 }
 
 // What Build's sheet for the plan in the first k bytes, and the changes of it, add to the counts; a refusal adds nothing.
-fn of_plan(f: Found, bytes: &[u8; 128], k: usize, x: u64) -> Counts
+fn of_plan(f: Found, bytes: &[u8; 160], k: usize, x: u64) -> Counts
     requires { ⌜ (f .m ≤ 5) × (f .n ≤ 3) ⌝ }
 {
     let plan = lines::front(bytes, k);
@@ -55,7 +55,7 @@ pub fn run(d: Drawing) -> Counts
     requires { ⌜ (d .m ≤ 5) × (1 ≤ d .n) × (d .n ≤ 3) ⌝ }
 {
     let f = exhaust::search(d);
-    let mut bytes = [0u8; 128];
+    let mut bytes = [0u8; 160];
     let k = encode::plan(&mut bytes, d);
     counts::plus(compare::of_plan(f), of_plan(f, &bytes, k, d.x))
 }

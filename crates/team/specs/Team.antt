@@ -25,6 +25,7 @@ openedTeam kind channels cap = record {
   second = replicate 64 255;
   third = replicate 64 255;
   fourth = replicate 64 255;
+  days = replicate 5 255;
 }
 
 -- a team of which the file names nothing

@@ -15,6 +15,8 @@ pub struct Team {
     pub second: [u8; 64],
     pub third: [u8; 64],
     pub fourth: [u8; 64],
+    // the byte of the command that says its days, 0B DAYS, and that command's operands: from and to (16 bits each, low byte first)
+    pub days: [u8; 5],
 }
 
 // A team of which the file names nothing.
@@ -30,5 +32,6 @@ pub fn blank() -> Team
         second: [255u8; 64],
         third: [255u8; 64],
         fourth: [255u8; 64],
+        days: [255u8; 5],
     }
 }

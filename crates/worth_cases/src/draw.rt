@@ -41,11 +41,12 @@ struct DrawnTeam {
     x: u64,
 }
 
-// A valuation, a count of instruments and a set, and the last number drawn for them.
+// A valuation, a count of instruments and a set, the instruments that are usable by the definition, and the last number drawn for them.
 pub struct Case {
     pub valuation: Valuation,
     pub m: usize,
     pub set: u64,
+    pub usable: u64,
     pub x: u64,
 }
 
@@ -55,7 +56,7 @@ pub fn next(x: u64) -> u64 {
 }
 
 // One of eight bytes.
-fn pick(x: u64, choice: [u8; 8]) -> u8 {
+pub fn pick(x: u64, choice: [u8; 8]) -> u8 {
     let k = (x / 256 % 8) as usize;
     choice[k]
 }
@@ -126,6 +127,7 @@ fn filled(f: Family, x: u64) -> DrawnTeam {
         second,
         third,
         fourth,
+        days: [255u8; 5],
     };
     DrawnTeam { team, x: z }
 }
@@ -200,6 +202,7 @@ pub fn drawn(f: Family, x: u64) -> Case
         valuation,
         m,
         set: sets::either(word.set, above(z, m)),
+        usable: sets::all_below(m),
         x: z,
     }
 }
@@ -242,6 +245,7 @@ pub fn glued(c: Case) -> Case
         valuation,
         m: c.m,
         set: sets::both(c.set, stays.set),
+        usable: usable.set,
         x: usable.x,
     }
 }

@@ -6,6 +6,7 @@ use lines::print;
 mod chosen;
 mod defined;
 mod draw;
+mod loan;
 mod many;
 
 // Answers a line that is a verb and its operands.
@@ -13,11 +14,15 @@ fn perform(line: &[u8]) {
     let verb = lines::word(line);
     let operands = lines::rest(line);
     if lines::same(verb, b"many") {
-        many::answer(operands, false);
+        many::answer(operands, many::PLAIN);
         return;
     }
     if lines::same(verb, b"glued") {
-        many::answer(operands, true);
+        many::answer(operands, many::GLUED);
+        return;
+    }
+    if lines::same(verb, b"lent") {
+        many::answer(operands, many::LENT);
         return;
     }
     if lines::same(verb, b"team") {

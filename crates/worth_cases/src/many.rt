@@ -1,12 +1,22 @@
-// The verbs `many COUNT SEED ROWS` and `glued COUNT SEED ROWS`, with a seed from 1 on: that many random cases of a family, worth and gains
-// beside the definition. With `many` every instrument is usable and none is glued; with `glued` both are drawn too.
+// The verbs `many COUNT SEED ROWS`, `glued COUNT SEED ROWS` and `lent COUNT SEED ROWS`, with a seed from 1 on: that many random cases of a
+// family, worth and gains beside the definition. With `many` every instrument is usable and none is glued; with `glued` both are drawn too; with
+// `lent` loan days are drawn, which say what is usable.
 ghost use Prim.Native.Nat.{_≤_, _<_};
 use crate::defined;
 use crate::draw;
 use crate::draw::Case;
 use crate::draw::Family;
+use crate::loan;
+use crate::loan::Ends;
 use lines::print;
 use std::num::wrapping_add_u64;
+
+// What is drawn besides the team and the set: nothing, usable and glued instruments, or loan days.
+pub const PLAIN: u8 = 0;
+
+pub const GLUED: u8 = 1;
+
+pub const LENT: u8 = 2;
 
 // Of the cases so far: the worths added up, the instruments gained, and how many answers differ from the definition's.
 struct Tally {
@@ -54,19 +64,32 @@ fn with_gains(t: Tally, c: Case) -> Tally
     }
 }
 
-// A case of a family, drawn after x, with glued instruments or without.
-fn case(f: Family, x: u64, glued: bool) -> Case
+// The tally with a case's usable instruments.
+fn with_usable(t: Tally, c: Case) -> Tally {
+    let v = c.valuation;
+    Tally {
+        worth: t.worth,
+        gains: t.gains,
+        differences: counted(t.differences, v.usable, c.usable),
+    }
+}
+
+// A case of a family, drawn after x, with glued instruments, with loan days, or with neither.
+fn case(f: Family, e: Ends, x: u64, sort: u8) -> Case
     ensures { λ r. ⌜ r .m ≤ 64 ⌝ }
 {
     let c = draw::drawn(f, x);
-    if glued {
+    if sort == GLUED {
         return draw::glued(c);
+    }
+    if sort == LENT {
+        return loan::lent(c, e);
     }
     c
 }
 
 // The tally of so many cases of a family.
-fn tallied(f: Family, count: usize, seed: u64, glued: bool) -> Tally {
+fn tallied(f: Family, e: Ends, count: usize, seed: u64, sort: u8) -> Tally {
     let mut t = Tally {
         worth: 0,
         gains: 0,
@@ -75,8 +98,8 @@ fn tallied(f: Family, count: usize, seed: u64, glued: bool) -> Tally {
     let mut x = seed;
     let mut k: usize = 0;
     while k < count {
-        let c = case(f, x, glued);
-        t = with_gains(with_worth(t, c), c);
+        let c = case(f, e, x, sort);
+        t = with_usable(with_gains(with_worth(t, c), c), c);
         x = c.x;
         k += 1;
     }
@@ -85,7 +108,7 @@ fn tallied(f: Family, count: usize, seed: u64, glued: bool) -> Tally {
 
 // The row of eight bytes at a number.
 fn row(bytes: &[u8; 4096], k: usize) -> [u8; 8]
-    requires { ⌜ k < 8 ⌝ }
+    requires { ⌜ k < 16 ⌝ }
 {
     let mut r = [0u8; 8];
     for i in 0..8usize {
@@ -106,6 +129,23 @@ fn family(bytes: &[u8; 4096]) -> Family {
     }
 }
 
+// The ends of days whose rows these are: the six rows after the family's.
+fn ends(bytes: &[u8; 4096]) -> Ends {
+    Ends {
+        shelf_from: row(bytes, 6),
+        shelf_to: row(bytes, 7),
+        from: row(bytes, 8),
+        to: row(bytes, 9),
+        high_from: row(bytes, 10),
+        high_to: row(bytes, 11),
+    }
+}
+
+// How many bytes the rows of a verb have.
+fn long(sort: u8) -> usize {
+    if sort == LENT { 96 } else { 48 }
+}
+
 // `COUNT cases, worth W, gains G, differences D`.
 fn show(count: usize, t: Tally) {
     print::marked(b"", count as u64);
@@ -114,16 +154,17 @@ fn show(count: usize, t: Tally) {
     print::marked(b", differences ", t.differences);
 }
 
-// Answers a verb. The rows are hexadecimal, in the order of a family's fields.
-pub fn answer(operands: &[u8], glued: bool) {
+// Answers a verb. The rows are hexadecimal, in the order of a family's fields, and after them for `lent` those of the ends of days.
+pub fn answer(operands: &[u8], sort: u8) {
     let after = lines::rest(operands);
     let count = lines::number(operands);
     let seed = lines::number(after);
     let mut space = io::buffer();
     let k = lines::decode(lines::rest(after), &mut space);
-    if k != 48 {
-        print::text(b"SIX ROWS OF EIGHT BYTES");
+    if k != long(sort) {
+        print::text(b"SIX ROWS OF EIGHT BYTES, AND FOR lent TWELVE");
         return;
     }
-    show(count, tallied(family(&space), count, seed as u64, glued));
+    let t = tallied(family(&space), ends(&space), count, seed as u64, sort);
+    show(count, t);
 }

@@ -1,8 +1,8 @@
 //! Note 2: plans with teams away, sheets for them, and what Check answers.
 
-use super::{commands, hex, teams_where};
+use super::{hex, teams_where};
 use pool::check::layout_of;
-use pool::plan::Plan;
+use pool::plan::{commands, Plan};
 use pool::random::Random;
 use pool::refusal::Refusal;
 

@@ -3,12 +3,13 @@
 #![allow(dead_code)]
 
 pub mod away;
+pub mod days;
 pub mod nets;
 #[cfg(proved)]
 pub mod proved;
 
 use pool::check::layout_of;
-use pool::plan::{operand_count, Plan, Team};
+use pool::plan::{commands, operand_count, Plan, Team};
 use pool::random::Random;
 use pool::sample::any_plan;
 use pool::sheet::Layout;
@@ -56,8 +57,8 @@ pub const MOUNTS_FAULTS: [(&str, u8, usize); 35] = [
     ("01 01 02 08 09 09 02 01 00 07", 2, 5),
     ("01 01 02 02 09 09 00 01 00 07", 2, 5),
     ("01 01 02 09 00 01", 2, 3),
-    ("01 01 02 0A", 3, 3),
-    ("01 01 02 08 09 0A 00 01 00 00 00 07", 3, 5),
+    ("01 01 02 0C", 3, 3),
+    ("01 01 02 08 09 0C 00 01 00 00 00 07", 3, 5),
     ("01 01 02 08 09 FF", 3, 5),
     ("01 01 02 09 00 01 00 00 00 07", 4, 3),
     ("01 01 02 02 09 09 00 01 00 00 00 07", 4, 5),
@@ -99,14 +100,20 @@ pub const MOUNTS_FAULTS: [(&str, u8, usize); 35] = [
     ("01 01 02 08 09 07 00", 9, 6),
 ];
 
-/// The longest plan before its END: twelve MOUNTS teams, each instrument fitting two mounts.
+/// The longest plan before its END: shelf days for each instrument, and twelve MOUNTS teams,
+/// each instrument fitting two mounts, with their days. All days lack a few of three weeks at
+/// either end, so that a team can have some of the instruments.
 pub fn longest_plan() -> PlanWriter {
     let mut plan = PlanWriter::start(64);
-    for _ in 0..12 {
+    for item in 0..64 {
+        plan.shelf(item, (item % 7) as u16, 21 - (item % 5) as u16);
+    }
+    for team in 0..12 {
         plan.mounts(255);
         for item in 0..64 {
             plan.fit(item, 1 << (item % 32) | 1 << ((item + 1) % 32));
         }
+        plan.days(team % 7, 21 - team % 5);
     }
     plan
 }
@@ -119,7 +126,7 @@ pub fn own_sheet(file: &[u8]) -> Vec<u8> {
 
 /// How often each refusal number came up.
 #[derive(Default)]
-pub struct Tally([usize; 17]);
+pub struct Tally([usize; 18]);
 
 impl Tally {
     /// Counts an answer of Check, or a refused Build.
@@ -156,18 +163,6 @@ pub fn damage(random: &mut Random, bytes: &[u8], other: &[u8]) -> Vec<u8> {
     out
 }
 
-/// Cuts a valid plan into its commands.
-pub fn commands(plan: &[u8]) -> Vec<Vec<u8>> {
-    let mut rest = plan;
-    let mut out = Vec::new();
-    while let Some(&byte) = rest.first() {
-        let length = 1 + operand_count(byte).expect("a command");
-        out.push(rest[..length].to_vec());
-        rest = &rest[length..];
-    }
-    out
-}
-
 /// Damages a plan command by command: left out, repeated, moved, an operand at an edge.
 pub fn damage_commands(random: &mut Random, plan: &[u8]) -> Vec<u8> {
     let mut row = commands(plan);
@@ -198,22 +193,36 @@ pub fn loose_commands(random: &mut Random) -> Vec<u8> {
     if random.chance(15, 16) {
         out.extend([0x01, random.pick(&[1, 1, 1, 1, 1, 1, 0, 2]), count]);
     }
+    for _ in 0..random.pick(&[0, 0, 0, 1, 2, 3]) {
+        loose_command(random, 0x0a, &mut out);
+    }
     for _ in 0..random.below(24) {
-        let usual = random.pick(&[2, 2, 3, 3, 3, 4, 4, 5, 5, 5, 6, 6, 6, 6, 6, 8, 8, 9, 9, 9]);
+        let usual = random.pick(&[
+            2, 2, 3, 3, 3, 4, 4, 5, 5, 5, 6, 6, 6, 6, 6, 8, 8, 9, 9, 9, 11, 11,
+        ]);
         let byte = if random.chance(1, 16) {
-            random.pick(&[1, 7, 0, 10, 255])
+            random.pick(&[1, 7, 0, 10, 12, 255])
         } else {
             usual
         };
-        out.push(byte);
-        for _ in 0..operand_count(byte).unwrap_or(0) {
-            out.push(random.pick(&[0, 0, 1, 1, 2, 3, 4, 15, 16, 63, 64]));
-        }
+        loose_command(random, byte, &mut out);
     }
     if random.chance(7, 8) {
         out.push(0x07);
     }
     out
+}
+
+/// A command with operands near their edges; days mostly with a low from.
+fn loose_command(random: &mut Random, byte: u8, out: &mut Vec<u8>) {
+    out.push(byte);
+    for _ in 0..operand_count(byte).unwrap_or(0) {
+        out.push(random.pick(&[0, 0, 1, 1, 2, 3, 4, 15, 16, 63, 64]));
+    }
+    if matches!(byte, 0x0a | 0x0b) && random.chance(3, 4) {
+        let end = out.len();
+        out[end - 3] = 0;
+    }
 }
 
 /// Changes one field of a sheet and keeps its form: the verdict is then about content.

@@ -3,7 +3,7 @@
 use super::{damage, damage_field, own_sheet, read, Tally};
 use pool::check::layout_of;
 use pool::random::Random;
-use pool::{build, check, ffi};
+use pool::{bits, build, check, definition, ffi};
 
 /// Bytes before and after a lent buffer that must stay as they are.
 pub const GUARD: usize = 40;
@@ -40,12 +40,64 @@ pub fn same_verdict(file: &[u8], sheet: &[u8]) -> u64 {
     own
 }
 
+/// Any bytes as a plan: Build without a buffer and Check without a sheet tell all
+/// of Read's refusals.
+pub fn same_reading(file: &[u8], tally: &mut Tally) {
+    assert!(proved_build(file, 0, 3).is_none());
+    let verdict = same_verdict(file, &[]);
+    tally.count(verdict);
+}
+
+/// Reads every beginning of a plan, and the plan with each byte set to each value.
+pub fn every_byte_of_plan(file: &[u8], tally: &mut Tally) {
+    for at in 0..file.len() {
+        same_reading(&file[..at], tally);
+        for value in 0..=255 {
+            let mut other = file.to_vec();
+            other[at] = value;
+            same_reading(&other, tally);
+        }
+    }
+}
+
 /// The verdict of both checkers on a sheet of a plan of one team that gives it this bundle.
 pub fn bundle_verdict(file: &[u8], bundle: u64) -> u64 {
     let plan = read(file);
     let mut found = build::contents(&plan);
     found.bundles = vec![bundle];
     same_verdict(file, &found.bytes(plan.instruments))
+}
+
+/// Gives the one team of a plan each bundle, and counts the verdicts: 13 where the bundle is not
+/// independent by the definition, and only there.
+pub fn every_bundle(file: &[u8], tally: &mut Tally) {
+    let plan = read(file);
+    for bundle in bits::subsets(plan.all()) {
+        let verdict = bundle_verdict(file, bundle);
+        let free = definition::independent(&plan, &plan.teams[0], bundle);
+        assert_eq!(verdict >> 16 != 13, free, "{bundle:b} by {file:x?}");
+        tally.count(verdict);
+    }
+}
+
+/// Bounds the total of a plan's sheet by each set, and counts the verdicts: 14 where the bound by
+/// the definition is not the total, and only there. Then each set stands in some team's page.
+pub fn every_bounding_set(random: &mut Random, file: &[u8], tally: &mut Tally) {
+    let plan = read(file);
+    let found = build::contents(&plan);
+    for set in bits::subsets(plan.all()) {
+        let mut other = build::contents(&plan);
+        other.bound = set;
+        let worth = |team| definition::worth(&plan, team, set);
+        let worths = plan.teams.iter().map(worth);
+        let sum = bits::size(plan.all() & !set) + worths.sum::<u32>();
+        let verdict = same_verdict(file, &other.bytes(plan.instruments));
+        assert_eq!(verdict >> 16 != 14, sum == found.total(), "{file:x?}");
+        tally.count(verdict);
+        other.bound = found.bound;
+        other.shares[random.below(plan.teams.len())].set = set;
+        tally.count(same_verdict(file, &other.bytes(plan.instruments)));
+    }
 }
 
 /// Sets each byte of a sheet to each value, and counts the verdicts of both checkers.

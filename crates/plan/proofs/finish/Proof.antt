@@ -1,4 +1,5 @@
 use Prim.Native.Nat.{_+_, _≤_}
+use mathlib.Core.Logic.{⊎-elim}
 use native.Mathlib.Omega.{arith}
 use lib.ListN.{length}
 use denote.Ref.{now}
@@ -19,11 +20,14 @@ refuse-requires c κs = search needs
 returns : tie.Need-returns
 returns c = let h1 = c .before .before .if1 .taken in let h2 = c .before .if2 .taken in simp (decided, h1, h2, c .refuse .ensures)
 
-returns-2 : tie.Need-returns-2
-returns-2 c = let h1 = c .before .if1 .taken in let h2 = c .if2 .left in simp (decided, h1, h2)
+accept-requires : tie.Need-accept-requires
+accept-requires c κs = search needs
 
-returns-3 : tie.Need-returns-3
-returns-3 c = let h : length (now (c .before .before .args .file)) ≤ c .before .before .args .at + 1 = omega (arith, c .if1 .left) in simp (decided, h)
+returns-2 : tie.Need-returns-2
+returns-2 c =
+    let args = c .before .before .before .before .args in
+    let h : length (now (args .file)) ≤ args .at + 1 = ⊎-elim (λ w. omega (arith, w .1 .left)) (λ w. omega (arith, w .left)) (c .before .if1 .came) in
+    simp (decided, h, c .accept .ensures)
 
 pub finish-spec : {M : Type 1} → statement M
-finish-spec = tie.close (tie.spec add-if2 add-refuse refuse-requires returns returns-2 returns-3)
+finish-spec = tie.close (tie.spec add-if2 add-refuse refuse-requires returns accept-requires returns-2)

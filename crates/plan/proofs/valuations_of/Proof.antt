@@ -1,35 +1,40 @@
 -- `valuations_of` meets its contract. The invariant: the entries below t are the valuations of the teams.
-use Prim.Native.Nat.{_-_, _≤_, _<_}
+use Prim.Native.Nat.{_-_, _≤_}
 use mathlib.Core.Path.{_≡_, refl}
 use native.Mathlib.Omega.{arith}
-use lib.ListN.{length}
 use Rattle.kinds.specs.Valuations.{blankValuation}
 use Rattle.plan.proofs.Each.{Tabled, tabled-none, tabled-next}
-use Rattle.plan.proofs.Valuing.{below-word, valuedAt, valued-at, valued-all}
+use Rattle.plan.proofs.Valuing.{valuedAt, valued-at, valued-all}
 use borrow.Author.Needs.{needs}
 use Rattle.plan.proofs.valuations_of.Statement.{statement}
 use Rattle.plan.proofs.valuations_of.Tie as tie
 
 abbrev Inv-loop : tie.InvT-loop
-Inv-loop r n usable valuations₀ t₀ valuations t = (t ≤ n) × Tabled (valuedAt (r .teams) usable) blankValuation t valuations
+Inv-loop r n words valuations₀ t₀ valuations t = (t ≤ n) × Tabled 12 (valuedAt r) blankValuation t valuations
 
 abbrev μ-loop : tie.MeasureT-loop
-μ-loop r n usable valuations₀ t₀ valuations t = n - t
+μ-loop r n words valuations₀ t₀ valuations t = n - t
 
-all-below-requires : tie.Need-all-below-requires Inv-loop μ-loop
-all-below-requires c κs = c .pre .small
+words-requires : tie.Need-words-requires Inv-loop μ-loop
+words-requires c κs = (c .before .before .pre .small, c .before .before .pre .few)
 
 blank-requires : tie.Need-blank-requires Inv-loop μ-loop
 blank-requires c κs = search needs
 
 loop-holds : tie.Need-loop-holds Inv-loop μ-loop
-loop-holds c = (search needs, tabled-none _ _ _ (c .blank .ensures))
+loop-holds c = (search needs, tabled-none _ _ _ _ (c .blank .ensures))
 
 mul-team : tie.Need-mul-team Inv-loop μ-loop
 mul-team c = search needs
 
 element-copy-out-team : tie.Need-element-copy-out-team Inv-loop μ-loop
 element-copy-out-team c = search needs
+
+mul-usable : tie.Need-mul-usable Inv-loop μ-loop
+mul-usable c = search needs
+
+array-read-usable : tie.Need-array-read-usable Inv-loop μ-loop
+array-read-usable c = search needs
 
 mul-valuations : tie.Need-mul-valuations Inv-loop μ-loop
 mul-valuations c = search needs
@@ -45,16 +50,14 @@ loop-less c = search needs
 
 loop-again : tie.Need-loop-again Inv-loop μ-loop
 loop-again c =
-    let valid = c .before .before .before .before .before .pre in
-    let l : c .before .before .loop .t < 12 = omega (arith, c .before .loop-test .taken, valid .few) in
-    let wide : c .before .before .loop .t < length (c .before .before .before .before .before .args .t1 .teams) = omega (arith, valid .teams-long) in
-    (search needs, tabled-next _ _ _ _ (c .before .before .loop .inv .1) l _ (valued-at (c .before .before .before .before .before .args .t1 .teams) _ _ _ _ wide refl))
+    let valid = c .before .before .before .before .before .before .before .pre in
+    let l = c .before .loop-test .taken in
+    (search needs, tabled-next _ _ _ _ _ (c .before .before .loop .inv .1) (omega (arith, l, valid .few)) _ (valued-at _ valid _ l _ _ _ refl (c .before .before .before .before .words .ensures)))
 
 returns : tie.Need-returns Inv-loop μ-loop
 returns c =
-    let e : c .before .loop .t ≡ c .before .before .before .before .args .t1 .n = omega arith in
-    let all = c .before .before .before .all-below in
-    valued-all _ _ _ (below-word _ _ (c .before .before .before .before .pre .small) (all .ok) (all .ensures)) (rw e at (c .before .loop .inv .1))
+    let e : c .before .loop .t ≡ c .before .before .before .before .before .before .args .t1 .n = omega arith in
+    valued-all _ _ (rw e at (c .before .loop .inv .1))
 
 pub valuations-of-spec : {M : Type 1} → statement M
 valuations-of-spec =
@@ -62,11 +65,13 @@ valuations-of-spec =
     (tie.spec
     Inv-loop
     μ-loop
-    all-below-requires
+    words-requires
     blank-requires
     loop-holds
     mul-team
     element-copy-out-team
+    mul-usable
+    array-read-usable
     mul-valuations
     array-set-from-valuations
     add-t

@@ -57,6 +57,18 @@ enum-known-command-7 c = search needs
 set-named-requires-3 : tie.Need-set-named-requires-3
 set-named-requires-3 c κs = search needs
 
+enum-known-command-8 : tie.Need-enum-known-command-8
+enum-known-command-8 c = search needs
+
+set-named-requires-4 : tie.Need-set-named-requires-4
+set-named-requires-4 c κs = search needs
+
+enum-known-command-9 : tie.Need-enum-known-command-9
+enum-known-command-9 c = search needs
+
+set-days-requires : tie.Need-set-days-requires
+set-days-requires c κs = search needs
+
 enum-told-5 : tie.Need-enum-told-5
 enum-told-5 c = search needs
 
@@ -125,9 +137,23 @@ returns-11 : tie.Need-returns-11
 unfolding changedTeam
 returns-11 c = rw (c .before .before .before .before .before .command7 .given .1) (c .before .before .set-named3 .ensures)
 
+same-length-8 : tie.Need-same-length-8
+same-length-8 c = search needs
+
 returns-12 : tie.Need-returns-12
 unfolding changedTeam
-returns-12 c = rw (c .enum-told5 .given .1)
+returns-12 c = rw (c .before .before .before .before .before .command8 .given .1) (c .before .before .set-named4 .ensures)
+
+same-length-9 : tie.Need-same-length-9
+same-length-9 c = search needs
+
+returns-13 : tie.Need-returns-13
+unfolding changedTeam
+returns-13 c = rw (c .before .before .before .before .before .command9 .given .1) (c .before .before .set-days .ensures)
+
+returns-14 : tie.Need-returns-14
+unfolding changedTeam
+returns-14 c = rw (c .enum-told5 .given .1)
 
 pub change-spec : {M : Type 1} → statement M
 change-spec =
@@ -151,6 +177,10 @@ change-spec =
     set-named-requires-2
     enum-known-command-7
     set-named-requires-3
+    enum-known-command-8
+    set-named-requires-4
+    enum-known-command-9
+    set-days-requires
     enum-told-5
     returns
     returns-2
@@ -170,4 +200,8 @@ change-spec =
     returns-10
     same-length-7
     returns-11
-    returns-12)
+    same-length-8
+    returns-12
+    same-length-9
+    returns-13
+    returns-14)

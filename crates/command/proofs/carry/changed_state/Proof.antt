@@ -54,6 +54,12 @@ enum-told-9 c = search needs
 enum-told-10 : tie.Need-enum-told-10
 enum-told-10 c = search needs
 
+enum-told-11 : tie.Need-enum-told-11
+enum-told-11 c = search needs
+
+enum-told-12 : tie.Need-enum-told-12
+enum-told-12 c = search needs
+
 returns : tie.Need-returns
 unfolding changedState
 returns c = rw (c .enum-told .given .1)
@@ -102,6 +108,14 @@ returns-12 : tie.Need-returns-12
 unfolding changedState
 returns-12 c = rw (c .enum-told10 .given .1)
 
+returns-13 : tie.Need-returns-13
+unfolding changedState
+returns-13 c = rw (c .enum-told11 .given .1)
+
+returns-14 : tie.Need-returns-14
+unfolding changedState
+returns-14 c = rw (c .enum-told12 .given .1)
+
 pub changed-state-spec : {M : Type 1} → statement M
 changed-state-spec =
     tie.close
@@ -123,6 +137,8 @@ changed-state-spec =
     enum-told-8
     enum-told-9
     enum-told-10
+    enum-told-11
+    enum-told-12
     returns
     returns-2
     returns-3
@@ -134,4 +150,6 @@ changed-state-spec =
     returns-9
     returns-10
     returns-11
-    returns-12)
+    returns-12
+    returns-13
+    returns-14)

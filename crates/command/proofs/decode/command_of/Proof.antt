@@ -106,6 +106,60 @@ add-t53 c = search needs
 shared-slice-read-t55 : tie.Need-shared-slice-read-t55
 shared-slice-read-t55 c = omega (arith, rw (c .before .before .before .before .before .match .keys8) at (c .before .before .before .before .before .before .pre))
 
+add-t56 : tie.Need-add-t56
+add-t56 c = search needs
+
+shared-slice-read-t58 : tie.Need-shared-slice-read-t58
+shared-slice-read-t58 c = omega (arith, rw (c .before .match .keys9) at (c .before .before .pre))
+
+add-t59 : tie.Need-add-t59
+add-t59 c = search needs
+
+shared-slice-read-t61 : tie.Need-shared-slice-read-t61
+shared-slice-read-t61 c = omega (arith, rw (c .before .before .match .keys9) at (c .before .before .before .pre))
+
+add-t62 : tie.Need-add-t62
+add-t62 c = search needs
+
+shared-slice-read-t64 : tie.Need-shared-slice-read-t64
+shared-slice-read-t64 c = omega (arith, rw (c .before .before .before .match .keys9) at (c .before .before .before .before .pre))
+
+add-t65 : tie.Need-add-t65
+add-t65 c = search needs
+
+shared-slice-read-t67 : tie.Need-shared-slice-read-t67
+shared-slice-read-t67 c = omega (arith, rw (c .before .before .before .before .match .keys9) at (c .before .before .before .before .before .pre))
+
+add-t68 : tie.Need-add-t68
+add-t68 c = search needs
+
+shared-slice-read-t70 : tie.Need-shared-slice-read-t70
+shared-slice-read-t70 c = omega (arith, rw (c .before .before .before .before .before .match .keys9) at (c .before .before .before .before .before .before .pre))
+
+add-t71 : tie.Need-add-t71
+add-t71 c = search needs
+
+shared-slice-read-t73 : tie.Need-shared-slice-read-t73
+shared-slice-read-t73 c = omega (arith, rw (c .before .match .keys10) at (c .before .before .pre))
+
+add-t74 : tie.Need-add-t74
+add-t74 c = search needs
+
+shared-slice-read-t76 : tie.Need-shared-slice-read-t76
+shared-slice-read-t76 c = omega (arith, rw (c .before .before .match .keys10) at (c .before .before .before .pre))
+
+add-t77 : tie.Need-add-t77
+add-t77 c = search needs
+
+shared-slice-read-t79 : tie.Need-shared-slice-read-t79
+shared-slice-read-t79 c = omega (arith, rw (c .before .before .before .match .keys10) at (c .before .before .before .before .pre))
+
+add-t80 : tie.Need-add-t80
+add-t80 c = search needs
+
+shared-slice-read-t82 : tie.Need-shared-slice-read-t82
+shared-slice-read-t82 c = omega (arith, rw (c .before .before .before .before .match .keys10) at (c .before .before .before .before .before .pre))
+
 returns : tie.Need-returns
 returns c = rw (c .before .before .match .keys1)
 
@@ -131,7 +185,13 @@ returns-8 : tie.Need-returns-8
 returns-8 c = rw (c .before .before .before .before .before .match .keys8)
 
 returns-9 : tie.Need-returns-9
-returns-9 c = let h = c .match .rest in rw (ne-eqb (c .before .args .byte) 1 (h .0 .0 .0 .0 .0 .0 .0 .1), ne-eqb (c .before .args .byte) 2 (h .0 .0 .0 .0 .0 .0 .1), ne-eqb (c .before .args .byte) 3 (h .0 .0 .0 .0 .0 .1), ne-eqb (c .before .args .byte) 4 (h .0 .0 .0 .0 .1), ne-eqb (c .before .args .byte) 5 (h .0 .0 .0 .1), ne-eqb (c .before .args .byte) 6 (h .0 .0 .1), ne-eqb (c .before .args .byte) 8 (h .0 .1), ne-eqb (c .before .args .byte) 9 (h .1))
+returns-9 c = rw (c .before .before .before .before .before .match .keys9)
+
+returns-10 : tie.Need-returns-10
+returns-10 c = rw (c .before .before .before .before .match .keys10)
+
+returns-11 : tie.Need-returns-11
+returns-11 c = let h = c .match .rest in rw (ne-eqb (c .before .args .byte) 1 (h .0 .0 .0 .0 .0 .0 .0 .0 .0 .1), ne-eqb (c .before .args .byte) 2 (h .0 .0 .0 .0 .0 .0 .0 .0 .1), ne-eqb (c .before .args .byte) 3 (h .0 .0 .0 .0 .0 .0 .0 .1), ne-eqb (c .before .args .byte) 4 (h .0 .0 .0 .0 .0 .0 .1), ne-eqb (c .before .args .byte) 5 (h .0 .0 .0 .0 .0 .1), ne-eqb (c .before .args .byte) 6 (h .0 .0 .0 .0 .1), ne-eqb (c .before .args .byte) 8 (h .0 .0 .0 .1), ne-eqb (c .before .args .byte) 9 (h .0 .0 .1), ne-eqb (c .before .args .byte) 10 (h .0 .1), ne-eqb (c .before .args .byte) 11 (h .1))
 
 pub command-of-spec : {M : Type 1} → statement M
 command-of-spec =
@@ -171,6 +231,24 @@ command-of-spec =
     shared-slice-read-t52
     add-t53
     shared-slice-read-t55
+    add-t56
+    shared-slice-read-t58
+    add-t59
+    shared-slice-read-t61
+    add-t62
+    shared-slice-read-t64
+    add-t65
+    shared-slice-read-t67
+    add-t68
+    shared-slice-read-t70
+    add-t71
+    shared-slice-read-t73
+    add-t74
+    shared-slice-read-t76
+    add-t77
+    shared-slice-read-t79
+    add-t80
+    shared-slice-read-t82
     returns
     returns-2
     returns-3
@@ -179,4 +257,6 @@ command-of-spec =
     returns-6
     returns-7
     returns-8
-    returns-9)
+    returns-9
+    returns-10
+    returns-11)

@@ -15,7 +15,7 @@ returns : tie.Need-returns
 returns c = refl
 
 returns-2 : tie.Need-returns-2
-returns-2 c = sym (List·getD-eq-default (0 ∷ 3 ∷ 2 ∷ 2 ∷ 3 ∷ 3 ∷ 4 ∷ 1 ∷ 2 ∷ 6 ∷ []) 0 (c .if1 .left))
+returns-2 c = sym (List·getD-eq-default (0 ∷ 3 ∷ 2 ∷ 2 ∷ 3 ∷ 3 ∷ 4 ∷ 1 ∷ 2 ∷ 6 ∷ 6 ∷ 5 ∷ []) 0 (c .if1 .left))
 
 pub width-of-spec : {M : Type 1} → statement M
 width-of-spec = tie.close (tie.spec mul-result array-read-result returns returns-2)

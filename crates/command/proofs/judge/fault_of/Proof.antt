@@ -64,6 +64,30 @@ enum-known-command-5 c = search needs
 fit-fault-requires : tie.Need-fit-fault-requires
 fit-fault-requires c κs = search needs
 
+enum-known-command-6 : tie.Need-enum-known-command-6
+enum-known-command-6 c = search needs
+
+day-requires : tie.Need-day-requires
+day-requires c κs = search needs
+
+day-requires-2 : tie.Need-day-requires-2
+day-requires-2 c κs = search needs
+
+shelf-fault-requires : tie.Need-shelf-fault-requires
+shelf-fault-requires c κs = search needs
+
+enum-known-command-7 : tie.Need-enum-known-command-7
+enum-known-command-7 c = search needs
+
+day-requires-3 : tie.Need-day-requires-3
+day-requires-3 c κs = search needs
+
+day-requires-4 : tie.Need-day-requires-4
+day-requires-4 c κs = search needs
+
+days-fault-requires : tie.Need-days-fault-requires
+days-fault-requires c κs = search needs
+
 enum-told-7 : tie.Need-enum-told-7
 enum-told-7 c = search needs
 
@@ -116,7 +140,15 @@ returns-11 c = rw (c .before .before .command5 .given .1) (c .fit-fault .ensures
 
 returns-12 : tie.Need-returns-12
 unfolding fault
-returns-12 c = rw (c .before .enum-told7 .given .1) (c .end-fault .ensures)
+returns-12 c = rw (c .before .before .before .before .command6 .given .1, ← c .before .before .day .ensures, ← c .before .day2 .ensures) (c .shelf-fault .ensures)
+
+returns-13 : tie.Need-returns-13
+unfolding fault
+returns-13 c = rw (c .before .before .before .before .command7 .given .1, ← c .before .before .day3 .ensures, ← c .before .day4 .ensures) (c .days-fault .ensures)
+
+returns-14 : tie.Need-returns-14
+unfolding fault
+returns-14 c = rw (c .before .enum-told7 .given .1) (c .end-fault .ensures)
 
 pub fault-of-spec : {M : Type 1} → statement M
 fault-of-spec =
@@ -142,6 +174,14 @@ fault-of-spec =
     span-fault-requires
     enum-known-command-5
     fit-fault-requires
+    enum-known-command-6
+    day-requires
+    day-requires-2
+    shelf-fault-requires
+    enum-known-command-7
+    day-requires-3
+    day-requires-4
+    days-fault-requires
     enum-told-7
     end-fault-requires
     returns
@@ -155,4 +195,6 @@ fault-of-spec =
     returns-9
     returns-10
     returns-11
-    returns-12)
+    returns-12
+    returns-13
+    returns-14)

@@ -28,17 +28,21 @@ table-requires-4 c κs = search needs
 table-requires-5 : tie.Need-table-requires-5
 table-requires-5 c κs = search needs
 
+days-command-requires : tie.Need-days-command-requires
+days-command-requires c κs = search needs
+
 returns : tie.Need-returns
 unfolding rowTeam
 returns c = λ j. record {
-  kind = getD (c .before .before .before .before .before .before .before .before .before .args .row .now) 0 0;
-  channels = getD (c .before .before .before .before .before .before .before .before .before .args .row .now) 1 0;
-  cap = c .before .before .before .before .before .caps .ensures j;
-  named = c .before .before .before .before .table .ensures j;
-  first = c .before .before .before .table2 .ensures j;
-  second = c .before .before .table3 .ensures j;
-  third = c .before .table4 .ensures j;
-  fourth = c .table5 .ensures j;
+  kind = getD (c .before .before .before .before .before .before .before .before .before .before .args .row .now) 0 0;
+  channels = getD (c .before .before .before .before .before .before .before .before .before .before .args .row .now) 1 0;
+  cap = c .before .before .before .before .before .before .caps .ensures j;
+  named = c .before .before .before .before .before .table .ensures j;
+  first = c .before .before .before .before .table2 .ensures j;
+  second = c .before .before .before .table3 .ensures j;
+  third = c .before .before .table4 .ensures j;
+  fourth = c .before .table5 .ensures j;
+  days = c .days-command .ensures j;
 }
 
 pub team-spec : {M : Type 1} → statement M
@@ -53,4 +57,5 @@ team-spec =
     table-requires-3
     table-requires-4
     table-requires-5
+    days-command-requires
     returns)

@@ -4,10 +4,10 @@ use Rattle.edges.proofs.reading.teams.Statement.{statement}
 use Rattle.edges.proofs.reading.teams.Tie as tie
 
 abbrev Inv-loop : tie.InvT-loop
-Inv-loop n table k₀ k = k ≤ 12
+Inv-loop n table days k₀ k = k ≤ 12
 
 abbrev μ-loop : tie.MeasureT-loop
-μ-loop n table k₀ k = 12 - k
+μ-loop n table days k₀ k = 12 - k
 
 loop-holds : tie.Need-loop-holds Inv-loop μ-loop
 loop-holds c = search needs
@@ -17,6 +17,12 @@ mul-team c = search needs
 
 array-copy-out-team : tie.Need-array-copy-out-team Inv-loop μ-loop
 array-copy-out-team c = search needs
+
+mul-team-2 : tie.Need-mul-team-2 Inv-loop μ-loop
+mul-team-2 c = search needs
+
+array-copy-out-team-2 : tie.Need-array-copy-out-team-2 Inv-loop μ-loop
+array-copy-out-team-2 c = search needs
 
 team-requires : tie.Need-team-requires Inv-loop μ-loop
 team-requires c κs = search needs
@@ -42,6 +48,8 @@ teams-spec =
     loop-holds
     mul-team
     array-copy-out-team
+    mul-team-2
+    array-copy-out-team-2
     team-requires
     add-k
     loop-less

@@ -9,14 +9,11 @@ refuse-requires c κs = search needs
 returns : tie.Need-returns
 returns c = let h = c .before .if1 .taken in simp (decided, h, c .refuse .ensures)
 
-teams-requires : tie.Need-teams-requires
-teams-requires c κs = search needs
-
 finish-requires : tie.Need-finish-requires
 finish-requires c κs = search needs
 
 returns-2 : tie.Need-returns-2
-returns-2 c = let h = c .before .before .if1 .left in simp (h, c .finish .ensures, c .before .teams .ensures)
+returns-2 c = let h = c .before .if1 .left in simp (h, c .finish .ensures)
 
 pub answer-spec : {M : Type 1} → statement M
-answer-spec = tie.close (tie.spec refuse-requires returns teams-requires finish-requires returns-2)
+answer-spec = tie.close (tie.spec refuse-requires returns finish-requires returns-2)

@@ -4,10 +4,10 @@ use Rattle.small_plans.proofs.encode.fits.Statement.{statement}
 use Rattle.small_plans.proofs.encode.fits.Tie as tie
 
 abbrev Inv-loop : tie.InvT-loop
-Inv-loop out₀ at m named first second third fourth end₀ g₀ out end g = g ≤ m
+Inv-loop out₀ at m command named first second third fourth end₀ g₀ out end g = g ≤ m
 
 abbrev μ-loop : tie.MeasureT-loop
-μ-loop out₀ at m named first second third fourth end₀ g₀ out end g = m - g
+μ-loop out₀ at m command named first second third fourth end₀ g₀ out end g = m - g
 
 loop-holds : tie.Need-loop-holds Inv-loop μ-loop
 loop-holds c = search needs

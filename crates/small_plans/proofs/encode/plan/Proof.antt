@@ -4,16 +4,19 @@ use Rattle.small_plans.proofs.encode.plan.Statement.{statement}
 use Rattle.small_plans.proofs.encode.plan.Tie as tie
 
 abbrev Inv-loop : tie.InvT-loop
-Inv-loop out₀ m n teams end₀ t₀ out end t = t ≤ n
+Inv-loop out₀ m n teams start end₀ t₀ out end t = t ≤ n
 
 abbrev μ-loop : tie.MeasureT-loop
-μ-loop out₀ m n teams end₀ t₀ out end t = n - t
+μ-loop out₀ m n teams start end₀ t₀ out end t = n - t
 
 cast-three : tie.Need-cast-three Inv-loop μ-loop
 cast-three c = search needs
 
 three-requires : tie.Need-three-requires Inv-loop μ-loop
 three-requires c κs = search needs
+
+fits-requires : tie.Need-fits-requires Inv-loop μ-loop
+fits-requires c κs = search needs
 
 loop-holds : tie.Need-loop-holds Inv-loop μ-loop
 loop-holds c = search needs
@@ -50,6 +53,7 @@ plan-spec =
     μ-loop
     cast-three
     three-requires
+    fits-requires
     loop-holds
     mul-one
     array-copy-out-one

@@ -4,10 +4,10 @@ use Rattle.small_plans.proofs.exhaust.worths.Statement.{statement}
 use Rattle.small_plans.proofs.exhaust.worths.Tie as tie
 
 abbrev Inv-loop : tie.InvT-loop
-Inv-loop m n teams table₀ t₀ table t = t ≤ n
+Inv-loop pool m n teams table₀ t₀ table t = t ≤ n
 
 abbrev μ-loop : tie.MeasureT-loop
-μ-loop m n teams table₀ t₀ table t = n - t
+μ-loop pool m n teams table₀ t₀ table t = n - t
 
 loop-holds : tie.Need-loop-holds Inv-loop μ-loop
 loop-holds c = search needs
@@ -17,6 +17,9 @@ mul-team c = search needs
 
 array-copy-out-team : tie.Need-array-copy-out-team Inv-loop μ-loop
 array-copy-out-team c = search needs
+
+usable-requires : tie.Need-usable-requires Inv-loop μ-loop
+usable-requires c κs = search needs
 
 put-worths-requires : tie.Need-put-worths-requires Inv-loop μ-loop
 put-worths-requires c κs = search needs
@@ -42,6 +45,7 @@ worths-spec =
     loop-holds
     mul-team
     array-copy-out-team
+    usable-requires
     put-worths-requires
     add-t
     loop-less

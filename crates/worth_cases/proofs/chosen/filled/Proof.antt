@@ -6,7 +6,7 @@ use Rattle.worth_cases.proofs.chosen.filled.Statement.{statement}
 use Rattle.worth_cases.proofs.chosen.filled.Tie as tie
 
 abbrev Inv-loop : tie.InvT-loop
-Inv-loop bytes row₀ at₀ row at = length row ≡ 338
+Inv-loop bytes row₀ at₀ row at = length row ≡ 343
 
 abbrev μ-loop : tie.MeasureT-loop
 μ-loop bytes row₀ at₀ row at = length bytes - at

@@ -4,10 +4,10 @@ use Rattle.worth_cases.proofs.many.tallied.Statement.{statement}
 use Rattle.worth_cases.proofs.many.tallied.Tie as tie
 
 abbrev Inv-loop : tie.InvT-loop
-Inv-loop f count seed glued t₀ x₀ k₀ t x k = k ≤ count
+Inv-loop f e count seed sort t₀ x₀ k₀ t x k = k ≤ count
 
 abbrev μ-loop : tie.MeasureT-loop
-μ-loop f count seed glued t₀ x₀ k₀ t x k = count - k
+μ-loop f e count seed sort t₀ x₀ k₀ t x k = count - k
 
 loop-holds : tie.Need-loop-holds Inv-loop μ-loop
 loop-holds c = search needs
@@ -20,6 +20,9 @@ with-worth-requires c κs = search needs
 
 with-gains-requires : tie.Need-with-gains-requires Inv-loop μ-loop
 with-gains-requires c κs = search needs
+
+with-usable-requires : tie.Need-with-usable-requires Inv-loop μ-loop
+with-usable-requires c κs = search needs
 
 add-k : tie.Need-add-k Inv-loop μ-loop
 add-k c = search needs
@@ -43,6 +46,7 @@ tallied-spec =
     case-requires
     with-worth-requires
     with-gains-requires
+    with-usable-requires
     add-k
     loop-less
     loop-again

@@ -1,0 +1,28 @@
+use Rattle.sets.proofs.Tests.{decided}
+use Rattle.command.specs.Row.{rowTeam}
+use Rattle.command.proofs.Rows.{named-at}
+use borrow.Author.Needs.{needs}
+use Rattle.command.proofs.judge.days_fault.Statement.{statement}
+use Rattle.command.proofs.judge.days_fault.Tie as tie
+
+returns : tie.Need-returns
+unfolding rowTeam
+returns c = rw (c .if1 .taken)
+
+returns-2 : tie.Need-returns-2
+unfolding rowTeam
+returns-2 c = let h1 = c .before .if1 .left in let h2 = c .if2 .taken in simp (decided, h1, h2)
+
+shared-slice-read-if3 : tie.Need-shared-slice-read-if3
+shared-slice-read-if3 c = search needs
+
+returns-3 : tie.Need-returns-3
+unfolding rowTeam
+returns-3 c = let h1 = c .before .before .before .if1 .left in let h2 = c .before .before .if2 .left in let h3 = c .if3 .taken in simp (decided, h1, h2, ← named-at (c .before .before .before .before .before .args .row .now) 338 5 0 (search needs) (search needs), h3)
+
+returns-4 : tie.Need-returns-4
+unfolding rowTeam
+returns-4 c = let h1 = c .before .before .before .if1 .left in let h2 = c .before .before .if2 .left in let h3 = c .if3 .left in simp (decided, h1, h2, ← named-at (c .before .before .before .before .before .args .row .now) 338 5 0 (search needs) (search needs), h3)
+
+pub days-fault-spec : {M : Type 1} → statement M
+days-fault-spec = tie.close (tie.spec returns returns-2 shared-slice-read-if3 returns-3 returns-4)

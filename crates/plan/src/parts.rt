@@ -1,0 +1,53 @@
+// The parts of the answer to a file that is accepted, by the table of rows: the teams, their days, and the shelf days of the instruments.
+ghost use mathlib.Core.Path.{_≡_};
+ghost use Prim.Native.Nat.{_≤_};
+ghost use lib.ListN.{length};
+ghost use Rattle.command.specs.Row.{rowTeam};
+ghost use Rattle.plan.specs.Read.{teamsOf, teamDays, shelfDays};
+ghost use Rattle.plan.specs.Progress.{rowsIn};
+use command::row;
+use days::Days;
+use team::Team;
+
+// The teams of the first n rows after the pool's, and blank ones beyond.
+pub fn teams(rows: &[u8], n: usize) -> [Team; 12]
+    requires { ⌜ (length (now rows) ≡ 4459) × (n ≤ 12) ⌝ }
+    ensures { λ r. ⌜ r ≡ teamsOf (rowsIn (now (rows .entry)) n) ⌝ }
+{
+    let mut teams = [team::blank(); 12];
+    for t in 0..n {
+        let start = row::WIDTH * (t + 1);
+        let end = start + row::WIDTH;
+        let team = row::team(&rows[start..end]);
+        teams[t] = team;
+    }
+    teams
+}
+
+// The days of these teams, and every day beyond.
+pub fn days(rows: &[u8], n: usize) -> [Days; 12]
+    requires { ⌜ (length (now rows) ≡ 4459) × (n ≤ 12) ⌝ }
+    ensures { λ r. ⌜ r ≡ teamDays (rowsIn (now (rows .entry)) n) ⌝ }
+{
+    let mut days = [days::always(); 12];
+    for t in 0..n {
+        let first = row::WIDTH * (t + 1);
+        let after = first + row::WIDTH;
+        let own = row::days(&rows[first..after]);
+        days[t] = own;
+    }
+    days
+}
+
+// The shelf days of the instruments below m, by the pool's row, and every day beyond.
+pub fn shelf(pool: &[u8], m: usize) -> [Days; 64]
+    requires { ⌜ (length (now pool) ≡ 343) × (m ≤ 64) ⌝ }
+    ensures { λ r. ⌜ r ≡ shelfDays m (rowTeam (now (pool .entry))) ⌝ }
+{
+    let mut shelf = [days::always(); 64];
+    for i in 0..m {
+        let own = row::shelf(pool, i);
+        shelf[i] = own;
+    }
+    shelf
+}
