@@ -1,5 +1,5 @@
 #!/bin/sh
-# Runs the tests: run.sh FOLDER, where FOLDER holds the programs desk, desk_checked, desk_faults, words and list.
+# Runs the tests: run.sh FOLDER, where FOLDER holds the programs desk, desk_checked, desk_faults, words, list and random.
 # The last line counts the tests; the exit status is 0 if none failed.
 set -u
 LC_ALL=C
@@ -18,7 +18,7 @@ absolute() {
 
 tests=$(absolute "$(dirname "$0")")
 built=$(absolute "$1")
-words=$built/words list=$built/list faults=$built/desk_faults
+words=$built/words list=$built/list random=$built/random faults=$built/desk_faults
 
 top=${TMPDIR:-/tmp}/desk-test-$$
 mkdir "$top" || exit 2
@@ -40,6 +40,7 @@ for program in desk desk_checked; do
 done
 . "$tests/words.sh"
 . "$tests/list.sh"
+. "$tests/random.sh"
 . "$tests/faults.sh"
 
 [ "$skipped" -eq 0 ] || echo "$skipped skipped"

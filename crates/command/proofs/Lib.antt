@@ -1,4 +1,3 @@
 pub mod Called
-pub mod Rows
 pub mod Mapped
 pub mod Standing

@@ -10,10 +10,7 @@ use lib.ListN.{length, getD}
 use borrow.Author.Tests.{leb-true, eqb-false}
 use Rattle.command.specs.declared.Command.{Command}
 use Rattle.command.specs.declared.Command.the-variants.{Missing, Unknown, Short, Start, Caps, Loops, Mounts, Class, Put, Span, Fit, Shelf, Days, End}
-use Rattle.command.specs.declared.State.{State}
-use Rattle.team.specs.declared.Team.{Team}
 use Rattle.command.specs.Command.{widthOf, commandBy, commandAt, bytesOf}
-use Rattle.command.specs.Fault.{fault}
 
 -- a command has as many bytes as its first byte says
 length-command : (file : List ℕ) (at byte : ℕ) → widthOf byte ≢ 0 → bytesOf (commandBy file at byte) ≡ widthOf byte
@@ -37,7 +34,7 @@ pub record Whole (file : List ℕ) (at : ℕ) (command : Command) : Type 0 where
   pub fits : at + bytesOf command ≤ length file
 
 -- what stands at an offset stands whole, or has no bytes
-stands : (file : List ℕ) (at : ℕ) → (bytesOf (commandAt file at) ≡ 0) ⊎ Whole file at (commandAt file at)
+pub stands : (file : List ℕ) (at : ℕ) → (bytesOf (commandAt file at) ≡ 0) ⊎ Whole file at (commandAt file at)
 unfolding commandAt
 stands file at = ends (leb (length file) at)
   where
@@ -64,28 +61,6 @@ stands file at = ends (leb (length file) at)
     ends : (b : Bool) → Stands (cond b Missing (cond (eqb (widthOf byte) 0) Unknown (cond (leb (at + widthOf byte) (length file)) command Short)))
     ends true = inl refl
     ends false = unknown (eqb (widthOf byte) 0) refl
-
--- what has no bytes breaks a rule
-breaks : (at : ℕ) (s : State) (team : Team) (command : Command) → bytesOf command ≡ 0 → fault at s team command ≢ 0
-unfolding fault
-breaks at s team Missing z e = omega arith
-breaks at s team Unknown z e = omega arith
-breaks at s team Short z e = omega arith
-breaks at s team (Start version m) z e = omega arith
-breaks at s team (Caps channels) z e = omega arith
-breaks at s team (Loops channels) z e = omega arith
-breaks at s team (Mounts channels) z e = omega arith
-breaks at s team (Class class cap) z e = omega arith
-breaks at s team (Put instrument class) z e = omega arith
-breaks at s team (Span instrument a b) z e = omega arith
-breaks at s team (Fit instrument a b c d) z e = omega arith
-breaks at s team (Shelf instrument a b c d) z e = omega arith
-breaks at s team (Days a b c d) z e = omega arith
-breaks at s team End z e = omega arith
-
--- a command that breaks no rule stands whole
-pub whole : (file : List ℕ) (at : ℕ) (s : State) (team : Team) → fault at s team (commandAt file at) ≡ 0 → Whole file at (commandAt file at)
-whole file at s team e = ⊎-elim (λ z. absurd (breaks at s team (commandAt file at) z e)) (λ w. w) (stands file at)
 
 -- the offset after what stands at an offset is below each bound of the two
 pub end-below : (file : List ℕ) (at n : ℕ) → at < n → length file < n → at + bytesOf (commandAt file at) < n

@@ -12,14 +12,24 @@ pub fn byte_at(file: &[u8], at: usize) -> u8
     if at < file.len() { file[at] } else { 0 }
 }
 
-// How many bytes the command of each byte below 0C has, operands included.
-const WIDTHS: [usize; 12] = [0, 3, 2, 2, 3, 3, 4, 1, 2, 6, 6, 5];
-
 // How many bytes the command of a byte has, operands included, and 0 for a byte that is no command's.
 fn width_of(byte: u8) -> usize
     ensures { λ r. ⌜ r ≡ widthOf byte ⌝ }
 {
-    if byte < 12 { WIDTHS[byte as usize] } else { 0 }
+    match byte {
+        1 => 3,
+        2 => 2,
+        3 => 2,
+        4 => 3,
+        5 => 3,
+        6 => 4,
+        7 => 1,
+        8 => 2,
+        9 => 6,
+        10 => 6,
+        11 => 5,
+        _ => 0,
+    }
 }
 
 // The command of a byte, with the operands that stand after an offset.

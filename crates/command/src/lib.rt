@@ -1,9 +1,6 @@
-// One command of a plan file: what stands at an offset, which rule it breaks, what it changes, and the reader that hands one out after another.
-pub mod carry;
+// One command of a plan file: what stands at an offset, and the reader that hands one out after another.
 pub mod decode;
-pub mod judge;
 pub mod reader;
-pub mod row;
 
 // What stands at an offset of the file.
 pub enum Command {

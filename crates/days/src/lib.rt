@@ -1,6 +1,7 @@
 // Loan days: the days of a team, the shelf days of an instrument, and which instruments are usable on a team's days.
 ghost use mathlib.Core.Path.{_≡_};
 ghost use Prim.Native.Nat.{_≤_};
+ghost use lib.Dec.{leb};
 ghost use Rattle.sets.specs.Bits.{word};
 ghost use Rattle.days.specs.Days.{always, dated, dayOf, given, within, usableOn};
 
@@ -22,6 +23,16 @@ pub fn day(low: u8, high: u8) -> u16
     ensures { λ r. ⌜ r ≡ dayOf low high ⌝ }
 {
     low as u16 + 256 * (high as u16)
+}
+
+// Whether a from is not below its to, by the two bytes of each, the low one first.
+pub fn not_below(a: u8, b: u8, c: u8, d: u8) -> bool
+    ensures { λ r. ⌜ r ≡ leb (dayOf c d) (dayOf a b) ⌝ }
+{
+    if b == d {
+        return a >= c;
+    }
+    b > d
 }
 
 // The days of a command, by its byte and the four bytes of its days. 255 is no command's byte.

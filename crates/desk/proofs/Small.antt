@@ -1,4 +1,4 @@
--- Every refusal's number is at most 16 and its place below 65,536, so that the desk's one number tells both.
+-- Every refusal's number is at most 17 and its place below 65,536, so that the desk's one number tells both.
 use Prim.Native.Nat.{ℕ, _≤_, _<_}
 use mathlib.Core.Path.{_≡_, refl, sym, ap, _∙_}
 use mathlib.Core.Bool.{Bool, true, false, not, cond}

@@ -17,14 +17,16 @@ use Rattle.plan.specs.declared.Reading.{Reading}
 use Rattle.command.specs.declared.State.{State}
 use Rattle.team.specs.declared.Team.{Team}
 use Rattle.command.specs.Command.{widthOf, commandBy, commandAt, bytesOf}
-use Rattle.command.specs.Fault.{fault, isEnd}
-use Rattle.command.specs.Carry.{start, openTeam, changedTeam, changedState, daysOf, shelfOf}
+use Rattle.judge.specs.Fault.{fault, isEnd}
+use Rattle.carry.specs.Carry.{start, openTeam, changedTeam, changedState}
+use Rattle.row.specs.Days.{daysOf, shelfOf}
 use Rattle.team.specs.Team.{blankTeam}
 use Rattle.days.specs.Days.{always}
 use Rattle.plan.specs.Read.{refused, accepted, finished, readFrom, readPlan}
 use Rattle.plan.specs.Valid.{Valid}
 use Rattle.plan.proofs.Kept.{Kept, kept-at, kept-start, kept-next}
-use Rattle.command.proofs.Standing.{Whole, whole}
+use Rattle.command.proofs.Standing.{Whole}
+use Rattle.judge.proofs.Standing.{whole}
 use Rattle.plan.proofs.Each.{each-length, each-at}
 use Rattle.plan.proofs.Steps.{number, step-refused, step-end, step-next, plan-start, plan-none}
 

@@ -12,9 +12,9 @@ use Rattle.team.specs.declared.Team.{Team}
 use Rattle.command.specs.declared.Command.{Command}
 use Rattle.command.specs.declared.Command.the-variants.{Missing, Unknown, Short, Start, Caps, Loops, Mounts, Class, Put, Span, Fit, Shelf, Days, End}
 use Rattle.command.specs.declared.State.{State}
-use Rattle.command.specs.Fault.{fault, isEnd}
-use Rattle.command.specs.Carry.{changedTeam, changedState}
-use Rattle.command.specs.Row.{rowTeam}
+use Rattle.judge.specs.Fault.{fault, isEnd}
+use Rattle.carry.specs.Carry.{changedTeam, changedState}
+use Rattle.row.specs.Row.{rowTeam}
 use Rattle.plan.specs.Progress.{rowAt, Followed}
 use Rattle.plan.proofs.Tables.{first-holds}
 use Rattle.plan.proofs.Rows.{lent, lent-length, row-lent, put-row, put-other}

@@ -17,8 +17,8 @@ use Rattle.command.specs.declared.State.{State}
 use Rattle.team.specs.declared.Team.{Team}
 use Rattle.command.specs.Command.{bytesOf}
 use Rattle.team.specs.Team.{capsKind, loopsKind, mountsKind, openedTeam}
-use Rattle.command.specs.Fault.{named, fault, isEnd}
-use Rattle.command.specs.Carry.{namedTeam, start, openTeam, changedTeam, changedState}
+use Rattle.judge.specs.Fault.{named, fault, isEnd}
+use Rattle.carry.specs.Carry.{namedTeam, start, openTeam, changedTeam, changedState}
 use Rattle.team.specs.Team.{blankTeam}
 use Rattle.days.specs.Days.{dayOf}
 use Rattle.plan.specs.Valid.{Naming, by-put, by-span, by-fit, ValidTeam}

@@ -16,8 +16,8 @@ use Rattle.command.specs.declared.State.{State}
 use Rattle.team.specs.declared.Team.{Team}
 use Rattle.team.specs.Team.{mountsKind, blankTeam}
 use Rattle.command.specs.Command.{widthOf, commandOf, commandAt, bytesOf}
-use Rattle.command.specs.Fault.{named, fault, isEnd}
-use Rattle.command.specs.Carry.{start, openTeam, changedTeam, changedState}
+use Rattle.judge.specs.Fault.{named, fault, isEnd}
+use Rattle.carry.specs.Carry.{start, openTeam, changedTeam, changedState}
 use Rattle.plan.specs.Read.{readFrom, readPlan}
 use Rattle.plan.proofs.Tables.{named-none}
 use Rattle.plan.proofs.Steps.{step-end, step-next, plan-start}

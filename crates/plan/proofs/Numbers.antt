@@ -14,9 +14,9 @@ use Rattle.plan.specs.declared.Reading.{Reading}
 use Rattle.command.specs.declared.State.{State}
 use Rattle.team.specs.declared.Team.{Team}
 use Rattle.command.specs.Command.{commandAt}
-use Rattle.command.specs.Fault.{rulesOf, fault}
+use Rattle.judge.specs.Fault.{rulesOf, fault}
 use Rattle.command.specs.Rule.{Rule, firstBroken}
-use Rattle.command.specs.Carry.{openTeam}
+use Rattle.carry.specs.Carry.{openTeam}
 use Rattle.plan.specs.Read.{refused, accepted, readPlan}
 use Rattle.plan.proofs.Bounds.{all-readings}
 

@@ -7,8 +7,8 @@ use native.Mathlib.Omega.{arith}
 use native.Mathlib.Decide.{decLt}
 use lib.ListN.{length, getD, take, drop, length-append, length-take, length-drop, List·getD-append}
 use lib.Seq.{length-take-le, take-at, drop-at, getD-take, getD-drop, getD-append-add}
-use Rattle.command.specs.Row.{part, rowTeam}
-use Rattle.command.proofs.Rows.{part-at, part-length, part-is}
+use Rattle.row.specs.Row.{part, rowTeam}
+use Rattle.row.proofs.Parts.{part-at, part-length, part-is}
 use Rattle.plan.specs.Progress.{rowAt}
 
 -- so many bytes of the table, as the code lends them

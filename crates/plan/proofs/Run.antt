@@ -17,14 +17,15 @@ use Rattle.plan.specs.declared.Reading.{Reading}
 use Rattle.command.specs.declared.State.{State}
 use Rattle.team.specs.declared.Team.{Team}
 use Rattle.command.specs.Command.{commandAt, bytesOf}
-use Rattle.command.specs.Fault.{fault, isEnd}
-use Rattle.command.specs.Carry.{start, openTeam, changedTeam, changedState, daysOf}
+use Rattle.judge.specs.Fault.{fault, isEnd}
+use Rattle.carry.specs.Carry.{start, openTeam, changedTeam, changedState}
+use Rattle.row.specs.Days.{daysOf}
 use Rattle.team.specs.Team.{blankTeam}
 use Rattle.days.specs.declared.Days.{Days as LoanDays}
 use Rattle.days.specs.Days.{always}
 use Rattle.plan.specs.Read.{refused, accepted, finished, teamsOf, teamDays, shelfDays, readFrom, readPlan}
 use Rattle.plan.specs.Progress.{rowAt, rowsIn, Followed, Ended}
-use Rattle.command.proofs.Standing.{whole}
+use Rattle.judge.proofs.Standing.{whole}
 use Rattle.plan.proofs.Each.{each-length, each-at}
 use Rattle.plan.proofs.Steps.{number, next, step-refused, step-end, step-next, plan-start}
 use Rattle.plan.proofs.Following.{few-teams, small-pool}

@@ -9,8 +9,8 @@ use borrow.Author.Tests.{eq-eqb, ne-eqb}
 use Rattle.command.specs.declared.State.{State}
 use Rattle.team.specs.declared.Team.{Team}
 use Rattle.command.specs.Command.{commandAt, bytesOf}
-use Rattle.command.specs.Fault.{fault, isEnd}
-use Rattle.command.specs.Carry.{start, openTeam, changedTeam, changedState}
+use Rattle.judge.specs.Fault.{fault, isEnd}
+use Rattle.carry.specs.Carry.{start, openTeam, changedTeam, changedState}
 use Rattle.team.specs.Team.{blankTeam}
 use Rattle.plan.specs.Read.{refused, finished, readFrom, readPlan}
 

@@ -35,8 +35,8 @@ use Rattle.kinds.specs.Valuations.{matroidOf, matroid-of, blankValuation}
 use Rattle.kinds.proofs.Contracting.{stands-empty, worth-above}
 use Rattle.plan.specs.declared.Reading.{Reading}
 use Rattle.command.specs.Command.{commandAt}
-use Rattle.command.specs.Fault.{fault}
-use Rattle.command.specs.Carry.{changedTeam, changedState}
+use Rattle.judge.specs.Fault.{fault}
+use Rattle.carry.specs.Carry.{changedTeam, changedState}
 use Rattle.plan.specs.Read.{readFrom, readPlan}
 use Rattle.plan.specs.Teams.{usable, teamMatroid, present, presentCount}
 

@@ -16,8 +16,8 @@ use Rattle.matroid.proofs.Sets.{size-le}
 use Rattle.command.specs.declared.Command.the-variants.{Class, Days}
 use Rattle.team.specs.declared.Team.{Team}
 use Rattle.team.specs.Team.{capsKind, loopsKind, mountsKind, openedTeam}
-use Rattle.command.specs.Fault.{named}
-use Rattle.command.specs.Carry.{namedTeam, changedTeam}
+use Rattle.judge.specs.Fault.{named}
+use Rattle.carry.specs.Carry.{namedTeam, changedTeam}
 use Rattle.plan.specs.Valid.{Naming, unnamed, ValidTeam}
 
 -- ---- what is known where no rule is broken

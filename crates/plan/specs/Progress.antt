@@ -11,9 +11,9 @@ use Rattle.team.specs.declared.Team.{Team}
 use Rattle.team.specs.Team.{blankTeam}
 use Rattle.command.specs.declared.Command.{Command}
 use Rattle.command.specs.declared.State.{State}
-use Rattle.command.specs.Fault.{fault, isEnd}
-use Rattle.command.specs.Carry.{changedTeam, changedState}
-use Rattle.command.specs.Row.{part, rowTeam}
+use Rattle.judge.specs.Fault.{fault, isEnd}
+use Rattle.carry.specs.Carry.{changedTeam, changedState}
+use Rattle.row.specs.Row.{part, rowTeam}
 use Rattle.plan.specs.declared.step.Progress.{Progress}
 use Rattle.plan.specs.declared.Reading.{Reading}
 use Rattle.plan.specs.Read.{refused, finished, readPlan}

@@ -9,8 +9,9 @@ use Rattle.plan.specs.declared.Reading.{Reading}
 use Rattle.command.specs.declared.State.{State}
 use Rattle.team.specs.declared.Team.{Team}
 use Rattle.command.specs.Command.{commandAt, bytesOf}
-use Rattle.command.specs.Fault.{fault, isEnd}
-use Rattle.command.specs.Carry.{start, openTeam, changedTeam, changedState, daysOf, shelfOf}
+use Rattle.judge.specs.Fault.{fault, isEnd}
+use Rattle.carry.specs.Carry.{start, openTeam, changedTeam, changedState}
+use Rattle.row.specs.Days.{daysOf, shelfOf}
 use Rattle.team.specs.Team.{blankTeam}
 use Rattle.days.specs.declared.Days.{Days}
 use Rattle.days.specs.Days.{always}

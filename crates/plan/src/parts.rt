@@ -2,10 +2,9 @@
 ghost use mathlib.Core.Path.{_≡_};
 ghost use Prim.Native.Nat.{_≤_};
 ghost use lib.ListN.{length};
-ghost use Rattle.command.specs.Row.{rowTeam};
+ghost use Rattle.row.specs.Row.{rowTeam};
 ghost use Rattle.plan.specs.Read.{teamsOf, teamDays, shelfDays};
 ghost use Rattle.plan.specs.Progress.{rowsIn};
-use command::row;
 use days::Days;
 use team::Team;
 

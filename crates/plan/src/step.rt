@@ -7,9 +7,6 @@ ghost use Rattle.plan.specs.Progress.{Followed, answered};
 use super::Reading;
 use command::Command;
 use command::State;
-use command::carry;
-use command::judge;
-use command::row;
 
 // How many bytes the table of thirteen rows has: 4,459.
 pub const TABLE: usize = 13 * row::WIDTH;

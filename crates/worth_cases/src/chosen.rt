@@ -2,7 +2,6 @@
 ghost use Prim.Native.Nat.{_≤_};
 use crate::defined;
 use command::Command;
-use command::row;
 use kinds::Valuation;
 use lines::print;
 use team::Team;
@@ -25,7 +24,7 @@ fn filled(bytes: &[u8]) -> Team {
         if w == 0 {
             return row::team(&row);
         }
-        command::carry::change(&mut row, command);
+        carry::change(&mut row, command);
         at += w;
     }
     row::team(&row)

@@ -1,5 +1,5 @@
 use mathlib.Core.Path.{refl, sym, _∙_}
-use Rattle.command.specs.Row.{part, rowTeam}
+use Rattle.row.specs.Row.{part, rowTeam}
 use Rattle.plan.specs.Progress.{rowAt}
 use Rattle.plan.proofs.Steps.{plan-none}
 use borrow.Author.Needs.{needs}

@@ -47,7 +47,7 @@ use denote.Triple.Clauses.{ensured, lasts}
 use Rattle.team.specs.Team.{blankTeam}
 use Rattle.command.specs.declared.Command.{Command}
 use Rattle.command.specs.declared.State.{State}
-use Rattle.command.specs.Carry.{start}
+use Rattle.carry.specs.Carry.{start}
 use Rattle.command.specs.Command.{commandAt, bytesOf}
 use Rattle.command.specs.Reader.{readerAt, nextOf}
 use Rattle.command.proofs.Called.{answers, told, asked}
@@ -73,10 +73,10 @@ use Rattle.command.proofs.reader.Reader.next as next
 use Rattle.command.proofs.reader.Reader.next.Symbol as next-def
 use Rattle.command.proofs.reader.Reader.next.Symbol.{name as #next}
 use Rattle.command.proofs.reader.Reader.next.Met as next-thm
-use Rattle.command.proofs.carry.nothing as nothing-read
-use Rattle.command.proofs.carry.nothing.Symbol as nothing-read-def
-use Rattle.command.proofs.carry.nothing.Symbol.{name as #nothing-read}
-use Rattle.command.proofs.carry.nothing.Met as nothing-read-thm
+use Rattle.carry.proofs.nothing as nothing-read
+use Rattle.carry.proofs.nothing.Symbol as nothing-read-def
+use Rattle.carry.proofs.nothing.Symbol.{name as #nothing-read}
+use Rattle.carry.proofs.nothing.Met as nothing-read-thm
 use Rattle.plan.proofs.step.follow as follow
 use Rattle.plan.proofs.step.follow.Symbol as follow-def
 use Rattle.plan.proofs.step.follow.Symbol.{name as #follow}
@@ -419,6 +419,6 @@ read-commands-spec 𝓤 H 𝓜 𝓖 𝓡 =
     (read-commands-meets 𝓤 H A (givenOf 𝓤 H 𝓜 𝓖) mem run (tablesOf 𝓤 H 𝓜 (tables 𝓤 H 𝓜 𝓡 code.env)) (record {
       new = cited 𝓤 H (New 𝓤 H A mem run) 𝓜 𝓡 code.env #new new-def.routine code.calls-command·reader·Reader·new (new-thm.met 𝓤 H 𝓜 𝓖 𝓡);
       next = cited 𝓤 H (NextOf 𝓤 H A mem run) 𝓜 𝓡 code.env #next next-def.routine code.calls-command·reader·Reader·next (next-thm.met 𝓤 H 𝓜 𝓖 𝓡);
-      nothing = cited 𝓤 H (Nothing 𝓤 H A mem run) 𝓜 𝓡 code.env #nothing-read nothing-read-def.routine code.calls-command·carry·nothing (nothing-read-thm.met 𝓤 H 𝓜 𝓖 𝓡);
+      nothing = cited 𝓤 H (Nothing 𝓤 H A mem run) 𝓜 𝓡 code.env #nothing-read nothing-read-def.routine code.calls-carry·nothing (nothing-read-thm.met 𝓤 H 𝓜 𝓖 𝓡);
       follow = cited 𝓤 H (Follow 𝓤 H A mem run) 𝓜 𝓡 code.env #follow follow-def.routine code.calls-plan·step·follow (follow-thm.met 𝓤 H 𝓜 𝓖 𝓡);
     }))

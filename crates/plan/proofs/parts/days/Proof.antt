@@ -2,7 +2,7 @@ use Prim.Native.Nat.{_+_, _-_, _≤_}
 use mathlib.Core.Path.{_≡_, ap, _∙_}
 use native.Mathlib.Omega.{arith}
 use Rattle.days.specs.Days.{always}
-use Rattle.command.specs.Carry.{daysOf}
+use Rattle.row.specs.Days.{daysOf}
 use Rattle.plan.specs.Progress.{rowAt}
 use Rattle.plan.proofs.Each.{Tabled, tabled-none, tabled-next, tabled-all}
 use Rattle.plan.proofs.Rows.{row-lent}

@@ -3,8 +3,8 @@ use Prim.Native.Nat.{_-_, _≤_}
 use mathlib.Core.Path.{_≡_, refl}
 use native.Mathlib.Omega.{arith}
 use Rattle.days.specs.Days.{always}
-use Rattle.command.specs.Row.{rowTeam}
-use Rattle.command.specs.Carry.{shelfOf}
+use Rattle.row.specs.Row.{rowTeam}
+use Rattle.row.specs.Days.{shelfOf}
 use Rattle.plan.proofs.Each.{Tabled, tabled-none, tabled-next, tabled-all}
 use borrow.Author.Needs.{needs}
 use Rattle.plan.proofs.parts.shelf.Statement.{statement}

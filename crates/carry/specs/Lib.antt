@@ -1,0 +1,2 @@
+-- Definitions to believe: Carry (what a command changes).
+pub mod Carry

@@ -1,0 +1,2 @@
+-- Definitions to believe: Fault (which rule a command breaks).
+pub mod Fault
