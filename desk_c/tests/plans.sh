@@ -23,9 +23,9 @@ POOL 0 1 2' '' "$desk" explain pool.plan
 hex most.plan 01 01 40 02 00 07
 quiet '64 instruments are accepted' "$desk" build most.plan most.sheet
 expect '64 instruments pass the check' 0 ACCEPTED '' "$desk" check most.plan most.sheet
-hex joint.plan 01 01 01 03 01 06 00 00 3F 07
-expect 'joint 63 is accepted' 0 'TOTAL 1
-TEAM 0 SHARE 1 HOLDS 0
+hex joint.plan 01 01 02 03 02 06 00 00 27 06 01 27 01 07
+expect 'joint 39 is accepted, second and first' 0 'TOTAL 2
+TEAM 0 SHARE 2 HOLDS 0 1
 POOL' '' "$desk" explain joint.plan
 expect 'two instruments on one mount' 0 'TOTAL 1
 TEAM 0 SHARE 1 HOLDS 0
@@ -108,10 +108,18 @@ Command 3 of the plan, PUT at byte 5 (05 01 10), has class 16; allowed is 0 to 1
 refused_plan 'SPAN where there are no instruments' 'REFUSED 5 5
 Command 3 of the plan, SPAN at byte 5 (06 00 01 02), has instrument 0; the plan has no instruments.' \
     01 01 00 03 01 06 00 01 02 07
-refused_plan 'joint 64' 'REFUSED 5 5
-Command 3 of the plan, SPAN at byte 5 (06 00 00 40), has joint 64; allowed is 0 to 63.' 01 01 01 03 01 06 00 00 40 07
+refused_plan 'second joint 40' 'REFUSED 5 5
+Command 3 of the plan, SPAN at byte 5 (06 00 00 28), has joint 40; allowed is 0 to 39.' 01 01 01 03 01 06 00 00 28 07
+refused_plan 'first joint 40' 'REFUSED 5 5
+Command 3 of the plan, SPAN at byte 5 (06 00 28 00), has joint 40; allowed is 0 to 39.' 01 01 01 03 01 06 00 28 00 07
+refused_plan 'second joint 63' 'REFUSED 5 5
+Command 3 of the plan, SPAN at byte 5 (06 00 27 3F), has joint 63; allowed is 0 to 39.' 01 01 01 03 01 06 00 27 3F 07
+refused_plan 'first joint 63' 'REFUSED 5 5
+Command 3 of the plan, SPAN at byte 5 (06 00 3F 27), has joint 63; allowed is 0 to 39.' 01 01 01 03 01 06 00 3F 27 07
 refused_plan 'equal joints out of range' 'REFUSED 5 5
-Command 3 of the plan, SPAN at byte 5 (06 00 40 40), has joint 64; allowed is 0 to 63.' 01 01 01 03 01 06 00 40 40 07
+Command 3 of the plan, SPAN at byte 5 (06 00 28 28), has joint 40; allowed is 0 to 39.' 01 01 01 03 01 06 00 28 28 07
+refused_plan 'an instrument spanned twice, the second time to joint 40' 'REFUSED 5 9
+Command 4 of the plan, SPAN at byte 9 (06 00 01 28), has joint 40; allowed is 0 to 39.' 01 01 01 03 01 06 00 00 01 06 00 01 28 07
 refused_plan 'FIT of an unknown instrument' 'REFUSED 5 5
 Command 3 of the plan, FIT at byte 5 (09 02 FF FF FF FF), has instrument 2; the plan has the instruments 0 to 1.' \
     01 01 02 08 01 09 02 FF FF FF FF 07

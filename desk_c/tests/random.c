@@ -1,4 +1,4 @@
-/* Draws plans with loan days and tries the library on them and on their damaged forms. */
+/* Draws plans with loan days and spans and tries the library on them and on their damaged forms. */
 #include "plan.h"
 #include "plan_days.h"
 #include "sheet.h"
@@ -10,6 +10,9 @@
 /* The byte that fills a buffer before it is lent. */
 #define FILLER 0xA5
 
+/* Joints are 0 to 39. */
+#define JOINTS 40
+
 /* What was tried. */
 struct tally {
     size_t plans;     /* drawn */
@@ -18,6 +21,7 @@ struct tally {
     size_t turned;    /* days with from not below to */
     size_t repeated;  /* days named a second time */
     size_t misplaced; /* SHELFs after a team, DAYS before the first */
+    size_t joints;    /* SPANs with a joint out of range */
     size_t failures;
 };
 
@@ -85,9 +89,9 @@ static void put_naming(unsigned kind, unsigned instrument)
 
     put(kind == PLAN_CAPS ? PLAN_PUT : kind == PLAN_LOOPS ? PLAN_SPAN : PLAN_FIT);
     put(instrument);
-    put(kind == PLAN_CAPS ? first % 3 : first);
+    put(kind == PLAN_CAPS ? first % 3 : kind == PLAN_LOOPS ? JOINTS - 1 - first : first);
     if (kind == PLAN_LOOPS)
-        put((first + 1 + draw(4)) % 5);
+        put(JOINTS - 1 - (first + 1 + draw(4)) % 5);
     for (size_t byte = 1; kind == PLAN_MOUNTS && byte < 4; byte++)
         put(0);
 }
@@ -229,7 +233,23 @@ static void try_command(size_t offset)
     tally.repeated++;
 }
 
-/* Tests each SHELF and each DAYS of the plan. */
+/* Tests a SPAN with joint 40, with joint 63 and with a drawn one out of range, in each place and in both. */
+static void try_span(size_t offset)
+{
+    uint8_t *joint = plan.at + offset + 2, before[] = {joint[0], joint[1]};
+    const uint8_t beyond[] = {JOINTS, 63, (uint8_t)(JOINTS + draw(256 - JOINTS))};
+
+    for (unsigned which = 1; which < 4; which++)
+        for (size_t choice = 0; choice < sizeof beyond; choice++) {
+            joint[0] = which & 1 ? beyond[choice] : before[0];
+            joint[1] = which & 2 ? beyond[choice] : before[1];
+            try_refused("a joint out of range", 5, offset);
+            tally.joints++;
+        }
+    memcpy(joint, before, sizeof before);
+}
+
+/* Tests each SHELF, each DAYS and each SPAN of the plan. */
 static void try_commands(void)
 {
     struct plan_place place = plan_first();
@@ -237,6 +257,8 @@ static void try_commands(void)
     while (plan_next(&plan, &place))
         if (plan.at[place.previous] == PLAN_SHELF || plan.at[place.previous] == PLAN_DAYS)
             try_command(place.previous);
+        else if (plan.at[place.previous] == PLAN_SPAN)
+            try_span(place.previous);
 }
 
 /* Tests a SHELF in the last team and a DAYS before the first. */
@@ -269,7 +291,8 @@ int main(int argc, char *argv[])
         try_commands();
         try_misplaced();
     }
-    printf("%zu plans, %zu given, %zu out of days, %zu turned, %zu repeated, %zu misplaced, %zu failures\n", tally.plans,
-           tally.given, tally.outside, tally.turned, tally.repeated, tally.misplaced, tally.failures);
+    printf("%zu plans, %zu given, %zu out of days, %zu turned, %zu repeated, %zu misplaced, %zu joints, %zu failures\n",
+           tally.plans, tally.given, tally.outside, tally.turned, tally.repeated, tally.misplaced, tally.joints,
+           tally.failures);
     return fflush(stdout) == 0 ? 0 : 2;
 }

@@ -64,9 +64,9 @@ long_shelf() {
     printf ' 0A %02x %02x 00 %02x 00' "$1" $(($1 % 8)) $((14 + $1))
 }
 
-# Prints a SPAN in hexadecimal: gauges in a ring of 64 joints.
+# Prints a SPAN in hexadecimal: gauges in a ring of 40 joints, 40 to 63 beside 0 to 23.
 ring_span() {
-    printf ' 06 %02x %02x %02x' "$1" "$1" $((($1 + 1) % 64))
+    printf ' 06 %02x %02x %02x' "$1" $(($1 % 40)) $((($1 + 1) % 40))
 }
 
 # Prints a FIT in hexadecimal: instruments on two neighbours in a ring of 32 mounts.

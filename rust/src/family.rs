@@ -1,5 +1,6 @@
 //! Families of plans for the benchmark.
 
+use crate::plan::JOINTS;
 use crate::random::Random;
 use crate::sample::{all_kinds_plan, caps_and_loops_plan, two_joints};
 use crate::writer::PlanWriter;
@@ -21,8 +22,8 @@ pub const FAMILIES: [Family; 14] = [
         plan: |random, m, n| loops_on(random, m, n, 16),
     },
     Family {
-        name: "sparse loops, 64 joints",
-        plan: |random, m, n| loops_on(random, m, n, 64),
+        name: "sparse loops, 40 joints",
+        plan: |random, m, n| loops_on(random, m, n, JOINTS),
     },
     Family {
         name: "caps",

@@ -11,7 +11,7 @@ pub const MOST_INSTRUMENTS: usize = 64;
 /// The number of classes a CAPS team can name.
 pub const CLASSES: usize = 16;
 /// The number of joints a LOOPS team can name.
-pub const JOINTS: usize = 64;
+pub const JOINTS: usize = 40;
 /// The number of mounts a MOUNTS team can name.
 pub const MOUNTS: usize = 32;
 

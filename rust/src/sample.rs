@@ -2,6 +2,7 @@
 
 use crate::bits;
 use crate::calendar::with_days;
+use crate::plan::JOINTS;
 use crate::random::Random;
 use crate::writer::PlanWriter;
 
@@ -124,7 +125,7 @@ fn caps_commands(random: &mut Random, instruments: usize, rate: usize) -> Vec<Ve
 /// SPAN commands; `rate` of 4 instruments have one.
 fn loops_commands(random: &mut Random, instruments: usize, rate: usize) -> Vec<Vec<u8>> {
     let few = random.between(2, 6);
-    let joints = random.pick(&[2, few, 8, 16, 64]);
+    let joints = random.pick(&[2, few, 8, 16, JOINTS]);
     let mut commands = Vec::new();
     for item in 0..instruments {
         if random.chance(rate, 4) {

@@ -1,4 +1,4 @@
-//! Union-find over the 64 joints.
+//! Union-find over the joints.
 
 use crate::plan::JOINTS;
 

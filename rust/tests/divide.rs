@@ -3,6 +3,7 @@
 mod common;
 
 use common::days::{plans_of_one, DAYS_FAULTS, TERM, WITHIN};
+use common::joints::{one_span, JOINT_ACCEPTED, JOINT_FAULTS};
 use common::*;
 use pool::build::contents;
 use pool::check::{answer as check, layout_of};
@@ -136,6 +137,27 @@ fn loan_days() {
 }
 
 #[test]
+fn forty_joints() {
+    let Some(program) = &*DIVIDE else { return };
+    for (bytes, total) in JOINT_ACCEPTED {
+        let total = format!("TOTAL {total}\n");
+        let output = printed(program, &hex(bytes));
+        assert!(output.starts_with(&total), "{output}{bytes}");
+        assert_eq!(right_output(program, &hex(bytes)), 0);
+    }
+    for joint in 0..=255 {
+        for file in [one_span(joint, 39), one_span(39, joint)] {
+            let expected = match joint {
+                39 => 8,
+                0..40 => 0,
+                _ => 5,
+            };
+            assert_eq!(right_output(program, &file), expected, "{joint}");
+        }
+    }
+}
+
+#[test]
 fn refusals_of_each_number() {
     let Some(program) = &*DIVIDE else { return };
     let faults = [
@@ -146,6 +168,7 @@ fn refusals_of_each_number() {
         ("01 01 02 02 09 0C 07", "REFUSED 3 5\n"),
         ("01 01 02 07", "REFUSED 4 3\n"),
         ("01 01 41", "REFUSED 5 0\n"),
+        ("01 01 02 03 09 06 00 27 28 07", "REFUSED 5 5\n"),
         ("01 01 02 02 09 05 01 00 05 01 00 07", "REFUSED 6 8\n"),
         ("01 01 02 03 09 06 00 01 01 07", "REFUSED 8 5\n"),
         ("01 01 02 03 09 07 07", "REFUSED 9 6\n"),
@@ -154,7 +177,8 @@ fn refusals_of_each_number() {
     for (bytes, line) in faults {
         assert_eq!(printed(program, &hex(bytes)), line, "{bytes}");
     }
-    for (bytes, number, place) in MOUNTS_FAULTS.into_iter().chain(DAYS_FAULTS) {
+    let faults = MOUNTS_FAULTS.into_iter().chain(DAYS_FAULTS);
+    for (bytes, number, place) in faults.chain(JOINT_FAULTS) {
         let line = format!("REFUSED {number} {place}\n");
         assert_eq!(printed(program, &hex(bytes)), line, "{bytes}");
     }

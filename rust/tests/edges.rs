@@ -3,6 +3,7 @@
 mod common;
 
 use common::days::without_days;
+use common::nets::LAST;
 use common::{hex, longest_plan, own_sheet, read, MOUNTS_FAULTS};
 use pool::build::{answer as build, contents, share_proof};
 use pool::check::{answer as check, page};
@@ -141,10 +142,11 @@ fn refused_plans() {
         ("01 01 02 02 09 05 02 00 07", 5, 5),
         ("01 01 02 02 09 05 01 10 07", 5, 5),
         ("01 01 02 03 09 06 02 01 02 07", 5, 5),
-        ("01 01 02 03 09 06 00 40 02 07", 5, 5),
-        ("01 01 02 03 09 06 00 3F 40 07", 5, 5),
-        ("01 01 02 03 09 06 00 40 40 07", 5, 5),
-        ("01 01 02 03 09 06 00 3F 3F 07", 8, 5),
+        ("01 01 02 03 09 06 00 28 02 07", 5, 5),
+        ("01 01 02 03 09 06 00 27 28 07", 5, 5),
+        ("01 01 02 03 09 06 00 28 28 07", 5, 5),
+        ("01 01 02 03 09 06 00 3F 3F 07", 5, 5),
+        ("01 01 02 03 09 06 00 27 27 07", 8, 5),
         ("01 01 02 03 09 06 00 01 02 06 00 03 03 07", 8, 9),
         ("01 01 02 03 09 06 00 01 02 06 00 03 04 07", 6, 9),
         ("01 01 02 02 09 05 00 01 05 00 02 07", 6, 8),
@@ -171,7 +173,8 @@ fn plan_a_cut_and_extended() {
 fn accepted_edges() {
     for text in [
         "01 01 40 02 00 07",
-        "01 01 02 03 FF 06 01 3F 00 07",
+        "01 01 02 03 FF 06 01 27 00 07",
+        "01 01 02 03 FF 06 01 00 27 07",
         "01 01 02 02 FF 04 0F FF 05 00 0F 05 01 03 07",
         "01 01 02 02 01 05 00 00 02 01 05 00 00 07",
         "01 01 00 08 00 07",
@@ -233,7 +236,7 @@ fn the_longest_plan_without_mounts_and_days() {
     for _ in 0..12 {
         plan.loops(255);
         for item in 0..64 {
-            plan.span(item, 0, 63);
+            plan.span(item, 0, LAST);
         }
     }
     let file = plan.end();

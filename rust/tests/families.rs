@@ -1,4 +1,5 @@
-//! The families of the benchmark: older ones make the plans they always made.
+//! The families of the benchmark: older ones make the plans they always made. Note 5 changed
+//! the teams on all joints, 64 of them before, in "sparse loops", "mixed" and "all three kinds".
 
 mod common;
 
@@ -26,16 +27,16 @@ fn families_keep_their_places_and_plans() {
     let expected = [
         ("dense loops, 6 joints", 0xd95b_8644_7f5b_4e14),
         ("loops, 16 joints", 0xb42d_3d86_fa0e_833b),
-        ("sparse loops, 64 joints", 0xcbc5_6c97_1743_bb42),
+        ("sparse loops, 40 joints", 0xe1d6_7c94_fea0_dc14),
         ("caps", 0xaac7_4077_7392_8ac4),
-        ("mixed", 0x8fc6_4fb7_de20_71ee),
+        ("mixed", 0xa862_14b1_6525_736c),
         ("all teams alike", 0x2deb_0c22_4f9d_ac68),
         ("long exchange chains", 0x7905_85be_24af_2351),
         ("chains, shuffled", 0x82c7_3ec3_f719_49a7),
         ("one team takes all", 0x17cb_01ac_cf7f_53c7),
         ("shares use up all", 0xcc33_ecbc_b40d_7839),
         ("mounts", 0x8a0d_1517_9e71_6475),
-        ("all three kinds", 0x8313_db82_fe1b_6681),
+        ("all three kinds", 0x2334_165f_22c7_90dc),
         ("half the teams away", 0xdf72_e5ae_c945_ee1b),
         ("with loan days", 0x4c46_370d_8a57_1adc),
     ];

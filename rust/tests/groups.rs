@@ -3,8 +3,8 @@
 mod common;
 
 use common::nets::{
-    any_net, chosen_nets, circle, complete, path, rename, rounds, some_net, star, two_groups,
-    Groups, Net,
+    any_net, chosen_nets, circle, complete, doubled, path, rename, rounds, some_net, star,
+    two_groups, Groups, Net, LAST, MOST,
 };
 use common::{cases, read};
 use pool::bits;
@@ -158,7 +158,7 @@ fn worth_is_joints_less_groups_up_to_the_channels() {
     let mut random = Random::new(805);
     for _ in 0..cases() {
         let net = some_net(&mut random, 64);
-        let channels = random.pick(&[0, 1, 2, 5, 15, 62, 63, 64, 255]);
+        let channels = random.pick(&[0, 1, 2, 5, 15, 38, 39, 40, 62, 63, 64, 255]);
         let file = net.plan(channels, 1);
         let set = random.word();
         let expected = net.worth(set & net.all()).min(channels.into());
@@ -244,51 +244,74 @@ fn chosen_nets_have_their_worth_in_every_order() {
 #[test]
 fn a_path_along_all_joints() {
     let (net, team) = (circle(), circle().team(255));
-    for count in 0..64 {
+    for count in 0..JOINTS {
         let bundle = bits::first(count);
         assert_eq!(worth_of(&net, bundle), count as u32);
-        let rest = if count == 63 { 0 } else { !bundle };
+        let whole = count == path().size();
+        let rest = if whole { 0 } else { net.all() & !bundle };
         assert_eq!(team.gains(bundle), rest, "{count}");
     }
-    assert_eq!(worth_of(&path(), path().all()), 63);
-    assert_eq!(worth_of(&net, u64::MAX), 63);
-    let (accepted, mut groups) = accept(&path(), &(0..63).rev().collect::<Vec<_>>());
-    assert_eq!(accepted, bits::first(63));
-    assert_eq!(by_roots(&mut groups), [u64::MAX; JOINTS]);
-    assert!(!offer(&net, &mut groups, 63));
+    assert_eq!(worth_of(&path(), path().all()), MOST);
+    assert_eq!(worth_of(&net, net.all()), MOST);
+    let (accepted, mut groups) = accept(&path(), &(0..path().size()).rev().collect::<Vec<_>>());
+    assert_eq!(accepted, path().all());
+    assert_eq!(by_roots(&mut groups), [bits::first(JOINTS); JOINTS]);
+    assert!(!offer(&net, &mut groups, LAST.into()));
+}
+
+/// However many gauges there are, no set is worth as much as there are joints.
+#[test]
+fn a_circle_of_64_gauges() {
+    let (net, team) = (doubled(circle()), doubled(circle()).team(255));
+    assert_eq!(net.size(), 64);
+    assert_eq!(worth_of(&net, u64::MAX), MOST);
+    for count in 0..=64 {
+        let last = u64::MAX.checked_shl(64 - count).unwrap_or(0);
+        assert_eq!(worth_of(&net, last), count.min(MOST), "{count}");
+        let more = count < MOST;
+        assert_eq!(team.gains(last) != 0, more, "{count}");
+    }
+    for item in 0..64 - JOINTS {
+        let pair = bits::one(item) | bits::one(item + JOINTS);
+        assert_eq!(worth_of(&net, pair), 1);
+        assert_eq!(team.gains(bits::one(item)), !pair);
+        assert_eq!(team.gains(bits::one(item + JOINTS)), !pair);
+    }
 }
 
 #[test]
 fn a_circle_without_one_or_two_gauges() {
     let (net, team) = (circle(), circle().team(255));
-    for one in 0..64 {
-        assert_eq!(worth_of(&net, !bits::one(one)), 63);
-        assert_eq!(team.gains(!bits::one(one)), 0);
+    for one in 0..net.size() {
+        let path = net.all() & !bits::one(one);
+        assert_eq!(worth_of(&net, path), MOST);
+        assert_eq!(team.gains(path), 0);
         for other in 0..one {
             let two = bits::one(one) | bits::one(other);
-            assert_eq!(worth_of(&net, !two), 62);
-            assert_eq!(team.gains(!two), two);
+            assert_eq!(worth_of(&net, net.all() & !two), MOST - 1);
+            assert_eq!(team.gains(net.all() & !two), two);
         }
     }
 }
 
 #[test]
 fn a_star_at_each_joint() {
-    for centre in 0..64 {
-        let leaves = (u8::from(centre == 0), 63 - u8::from(centre == 63));
+    let (last, whole) = (bits::one(LAST.into()), bits::first(LAST.into()));
+    for centre in 0..=LAST {
+        let leaves = (u8::from(centre == 0), LAST - u8::from(centre == LAST));
         let net = star(centre).and([leaves]);
         let team = net.team(255);
-        assert_eq!(worth_of(&net, bits::first(63)), 63);
-        assert_eq!(worth_of(&net, u64::MAX), 63);
-        assert_eq!(team.gains(bits::first(63)), 0);
-        assert_eq!(team.gains(bits::first(62)), !bits::first(62));
-        assert_eq!(team.gains(bits::one(63)), bits::first(63));
+        assert_eq!(worth_of(&net, whole), MOST);
+        assert_eq!(worth_of(&net, net.all()), MOST);
+        assert_eq!(team.gains(whole), 0);
+        assert_eq!(team.gains(whole >> 1), net.all() & !(whole >> 1));
+        assert_eq!(team.gains(last), whole);
     }
 }
 
 #[test]
 fn gauges_on_one_pair() {
-    for pair in [(1, 2), (0, 63), (63, 0), (62, 63)] {
+    for pair in [(1, 2), (0, LAST), (LAST, 0), (LAST - 1, LAST)] {
         let net = Net::of([pair; 64]);
         let team = net.team(255);
         assert_eq!(worth_of(&net, u64::MAX), 1);
@@ -303,12 +326,20 @@ fn gauges_on_one_pair() {
 
 #[test]
 fn two_groups_joined_late() {
-    let joined = bits::first(10) | bits::one(62) | bits::one(63);
+    let before = LAST - 1;
+    let joined = bits::first(10) | bits::one(before.into()) | bits::one(LAST.into());
     let expected = |joint| match bits::has(joined, joint) {
         true => joined,
         false => bits::one(joint),
     };
-    for last in [(0, 62), (9, 63), (5, 62), (62, 0), (63, 9), (62, 5)] {
+    for last in [
+        (0, before),
+        (9, LAST),
+        (5, before),
+        (before, 0),
+        (LAST, 9),
+        (before, 5),
+    ] {
         let net = two_groups(last);
         assert_eq!(worth_of(&net, bits::first(10)), 10);
         assert_eq!(net.team(255).gains(bits::first(10)), bits::one(10));
@@ -324,20 +355,34 @@ fn pairs_joined_in_rounds() {
     let net = rounds();
     let mut groups = UnionFind::new();
     let mut item = 0;
-    for size in [2, 4, 8, 16, 32, 64] {
-        for _ in 0..64 / size {
+    for size in [2, 4, 8] {
+        for _ in 0..JOINTS / size {
             assert!(offer(&net, &mut groups, item));
             item += 1;
         }
         let expected = |joint| bits::first(size) << (joint / size * size);
         assert_eq!(by_roots(&mut groups), std::array::from_fn(expected));
-        assert_eq!(worth_of(&net, bits::first(item)), 64 - 64 / size as u32);
+        let worth = JOINTS - JOINTS / size;
+        assert_eq!(worth_of(&net, bits::first(item)), worth as u32);
     }
+    for size in (16..=JOINTS).step_by(8) {
+        assert!(offer(&net, &mut groups, item));
+        item += 1;
+        let expected = |joint| match joint < size {
+            true => bits::first(size),
+            false => bits::first(8) << (joint / 8 * 8),
+        };
+        assert_eq!(by_roots(&mut groups), std::array::from_fn(expected));
+        assert_eq!(worth_of(&net, bits::first(item)), item as u32);
+    }
+    assert_eq!(item, net.size());
+    assert_eq!(worth_of(&net, net.all()), MOST);
 }
 
 #[test]
-fn joints_0_and_63() {
-    let net = Net::of([(0, 63), (63, 0), (62, 0), (63, 62), (63, 1)]);
+fn the_outer_joints() {
+    let before = LAST - 1;
+    let net = Net::of([(0, LAST), (LAST, 0), (before, 0), (LAST, before), (LAST, 1)]);
     let team = net.team(255);
     for (set, worth, gains) in [
         (0b00001, 1, 0b11100),
@@ -402,7 +447,8 @@ fn members_from_m_on_are_passed_over() {
 
 #[test]
 fn instruments_with_no_span_are_never_gained() {
-    let net = Net(vec![None, Some((0, 63)), None, Some((63, 0)), None]);
+    let (there, back) = (Some((0, LAST)), Some((LAST, 0)));
+    let net = Net(vec![None, there, None, back, None]);
     assert_eq!(worth_of(&net, 0b11111), 1);
     assert_eq!(worth_of(&net, 0b10101), 0);
     assert_eq!(net.team(255).gains(0), 0b01010);
@@ -412,11 +458,12 @@ fn instruments_with_no_span_are_never_gained() {
 
 #[test]
 fn channels_below_the_forest() {
-    for channels in [0, 1, 31, 62, 63, 64, 255] {
-        let most = 63.min(u32::from(channels));
+    for channels in [0, 1, 19, 31, 38, 39, 40, 62, 63, 64, 255] {
+        let most = MOST.min(channels.into());
         assert_eq!(circle().team(channels).rank(u64::MAX), most);
-        assert_eq!(star(63).team(channels).rank(bits::first(63)), most);
-        assert_eq!(rounds().team(channels).rank(bits::first(63)), most);
+        assert_eq!(doubled(circle()).team(channels).rank(u64::MAX), most);
+        assert_eq!(star(LAST).team(channels).rank(star(LAST).all()), most);
+        assert_eq!(rounds().team(channels).rank(rounds().all()), most);
     }
 }
 

@@ -54,7 +54,7 @@ fn chosen_nets_for_every_number_of_teams() {
 #[test]
 fn chosen_nets_have_their_worth() {
     for (name, net, worth) in chosen_nets() {
-        for channels in [0, 1, 2, 10, 62, 63, 64, 255] {
+        for channels in [0, 1, 2, 10, 38, 39, 40, 62, 63, 64, 255] {
             let expected = worth.min(channels.into());
             assert_eq!(proved_total(&net, channels), expected, "{name} {channels}");
         }
@@ -111,7 +111,7 @@ fn the_total_of_one_team_is_joints_less_groups() {
     let mut random = Random::new(825);
     for _ in 0..cases() / 4 {
         let net = some_net(&mut random, 64);
-        let channels = random.pick(&[255, 255, 63, 20, 5, 1, 0]);
+        let channels = random.pick(&[255, 255, 63, 40, 39, 38, 20, 5, 1, 0]);
         let expected = net.worth(net.all()).min(channels.into());
         assert_eq!(proved_total(&net, channels), expected, "{net:?} {channels}");
     }

@@ -1,4 +1,4 @@
--- Which rule a command breaks (document 01, "Read"; document 02, notes 1 and 4). "Within a command the order is": 3, 2, 4, 7, 5, 17, 8, 6.
+-- Which rule a command breaks (document 01, "Read"; document 02, notes 1, 4 and 5). "Within a command the order is": 3, 2, 4, 7, 5, 17, 8, 6.
 use Prim.Native.Nat.{ℕ}
 use mathlib.Core.Bool.{Bool, true, false, not}
 use mathlib.Core.List.{List, [], _∷_}
@@ -6,7 +6,7 @@ use lib.Dec.{eqb, leb, ltb}
 use lib.ListN.{getD}
 use Rattle.command.specs.declared.Command.{Command}
 use Rattle.command.specs.declared.Command.the-variants.{Missing, Unknown, Short, Start, Caps, Loops, Mounts, Class, Put, Span, Fit, Shelf, Days, End}
-use Rattle.team.specs.Team.{capsKind, loopsKind, mountsKind}
+use Rattle.team.specs.Team.{capsKind, loopsKind, mountsKind, joints}
 use Rattle.days.specs.Days.{dayOf}
 use Rattle.command.specs.declared.State.{State}
 use Rattle.team.specs.declared.Team.{Team}
@@ -33,13 +33,13 @@ abbrev pub putRules : State → Team → (instrument class : ℕ) → List (Rule
 putRules s team instrument class =
     rule (not (eqb (team .kind) capsKind)) 4 ∷ rule (leb (s .m) instrument) 5 ∷ rule (leb 16 class) 5 ∷ rule (named (team .named) instrument) 6 ∷ []
 
--- SPAN belongs to an open LOOPS team; each joint is 0 to 63; "a SPAN with two equal joints is 8"
+-- SPAN belongs to an open LOOPS team; "joints are now 0 to 39, and 40 to 63 meet 5"; "a SPAN with two equal joints is 8"
 abbrev pub spanRules : State → Team → (instrument a b : ℕ) → List (Rule ℕ)
 spanRules s team instrument a b =
     rule (not (eqb (team .kind) loopsKind)) 4
     ∷ rule (leb (s .m) instrument) 5
-    ∷ rule (leb 64 a) 5
-    ∷ rule (leb 64 b) 5
+    ∷ rule (leb joints a) 5
+    ∷ rule (leb joints b) 5
     ∷ rule (eqb a b) 8
     ∷ rule (named (team .named) instrument) 6
     ∷ []
@@ -80,6 +80,7 @@ rulesOf at s team End = endRules s
 
 -- the number of the first rule that a command breaks, and 0 where it breaks none
 unfoldable pub fault : ℕ → State → Team → Command → ℕ
+unfolding joints
 fault at s team command = firstBroken 0 (rulesOf at s team command)
 
 -- whether the command is END

@@ -59,7 +59,7 @@ fn put_fault(row: &[u8], s: State, instrument: u8, class: u8) -> usize
     if named(row, i) { 6 } else { 0 }
 }
 
-// SPAN: in a LOOPS team, an instrument below m, two different joints below 64, named once.
+// SPAN: in a LOOPS team, an instrument below m, two different joints, named once.
 fn span_fault(row: &[u8], s: State, instrument: u8, a: u8, b: u8) -> usize
     requires { ⌜ length (now row) ≡ 343 ⌝ }
     ensures { λ r. ⌜ r ≡ firstBroken 0 (spanRules s (rowTeam (now (row .entry))) instrument a b) ⌝ }
@@ -71,10 +71,10 @@ fn span_fault(row: &[u8], s: State, instrument: u8, a: u8, b: u8) -> usize
     if i >= s.m {
         return 5;
     }
-    if a >= 64 {
+    if a as usize >= team::JOINTS {
         return 5;
     }
-    if b >= 64 {
+    if b as usize >= team::JOINTS {
         return 5;
     }
     if a == b {

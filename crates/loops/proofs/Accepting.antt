@@ -8,13 +8,13 @@ use lib.Dec.{T, eqb}
 use Rattle.matroid.specs.Set.{Within, with}
 use Rattle.sets.specs.Bits.{bit}
 use Rattle.sets.proofs.Below.{bit-none}
-use Rattle.loops.specs.declared.forest.Forest.{Forest}
-use Rattle.loops.specs.Net.{Net, joints, spans, LoopFree}
+use Rattle.team.specs.Team.{joints}
+use Rattle.loops.specs.Net.{Net, spans, LoopFree}
 use Rattle.loops.specs.Links.{spans-iff}
 use Rattle.loops.specs.Groups.{Groups, InOneGroup, alone, joined, apart, apart-iff, on, carried, start, accept, joined-here, joined-still, row-together}
 use Rattle.loops.specs.Graphic.{loop-free-part}
 use Rattle.loops.specs.Accepting.{accepted-free}
-use Rattle.loops.specs.Forests.{groupsOf, Holds, Carried}
+use Rattle.loops.specs.Forests.{groupsOf, Forest, forest, Holds, Carried}
 
 -- a table tells which joints are apart as the groups do that it holds
 pub apart-holds : (table : List ℕ) (G : Groups) → Holds table G → (a b : ℕ) → T (apart (groupsOf table) a b) ↔ T (apart G a b)
@@ -41,8 +41,8 @@ module _ (N : Net) (m : ℕ) where
   open Net N using (endA, endB)
 
   -- no gauge, and every joint alone
-  pub carried-none : (forest : Forest) → forest .gauges ≡ 0 → Holds (forest .groups) alone → Carried N m forest
-  carried-none forest none own = record { row = []; accepted = start; gauges = λ j l. ap (λ (w : ℕ). bit w j) none ∙ bit-none j; groups = own }
+  pub carried-none : (groups : List ℕ) → Holds groups alone → Carried N m (forest 0 groups)
+  carried-none groups own = record { row = []; accepted = start; gauges = λ j l. bit-none j; groups = own }
 
   module _ (forest : Forest) (c : Carried N m forest) where
     -- the gauges are the row's, below m
@@ -75,6 +75,5 @@ module _ (N : Net) (m : ℕ) where
         }
 
 -- what is apart are joints
-pub apart-below : (G : Groups) (a b : ℕ) (t : Bool) → t ≡ apart G a b → t ≡ true → (a < 64) × (b < 64)
-unfolding joints
+pub apart-below : (G : Groups) (a b : ℕ) (t : Bool) → t ≡ apart G a b → t ≡ true → (a < joints) × (b < joints)
 apart-below G a b t e f = let (la, lb, _) = apart-iff G a b .0 (subst T (sym (sym e ∙ f)) tt) in (la, lb)

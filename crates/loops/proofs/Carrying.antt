@@ -12,11 +12,10 @@ use Rattle.matroid.specs.SetLaws.{ne→eqb, size-within, size-without}
 use Rattle.sets.specs.Bits.{bit}
 use Rattle.sets.specs.Lowest.{Lowest}
 use Rattle.sets.proofs.Growing.{Growing, growing-none, growing-done, growing-take, growing-skip}
-use Rattle.loops.specs.declared.forest.Forest.{Forest}
 use Rattle.loops.specs.Net.{Net, LoopFree}
 use Rattle.loops.specs.Groups.{joined, apart}
 use Rattle.loops.specs.Graphic.{graphic}
-use Rattle.loops.specs.Forests.{groupsOf, Holds, Carried, CarriedOn}
+use Rattle.loops.specs.Forests.{groupsOf, Forest, Holds, Carried, CarriedOn}
 use Rattle.loops.proofs.Accepting.{carried-free, carried-never, carried-accept, apart-still, apart-never}
 
 pub record Carrying (N : Net) (m : ℕ) (last : Forest) (from most left room : ℕ) (forest : Forest) : Type 0 where

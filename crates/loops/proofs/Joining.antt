@@ -15,12 +15,11 @@ use Rattle.matroid.proofs.Sets.{size-le}
 use Rattle.sets.specs.Bits.{bit}
 use Rattle.sets.specs.Joining.{MayJoin, Grown}
 use Rattle.sets.proofs.Below.{bit-none}
-use Rattle.loops.specs.declared.forest.Forest.{Forest}
 use Rattle.loops.specs.Net.{Net, LoopFree}
 use Rattle.loops.specs.Groups.{apart, on, carried}
 use Rattle.loops.specs.Graphic.{graphic, loop-free-part}
 use Rattle.loops.specs.Accepting.{accepted-joins, accepted-worth}
-use Rattle.loops.specs.Forests.{groupsOf, CarriedOn}
+use Rattle.loops.specs.Forests.{groupsOf, Forest, forest, CarriedOn}
 use Rattle.loops.proofs.Accepting.{apart-holds, row-gauges, gauges-row, carried-free}
 
 -- with one member more
@@ -64,12 +63,12 @@ module _ (N : Net) (groups : List ℕ) where
     }
 
 -- what is carried on from no gauge, with room for all gauges of a set
-module _ (N : Net) (m set : ℕ) (none held : Forest) (empty : none .gauges ≡ 0) (small : m ≤ 64) (c : CarriedOn N m none set 64 held) where
+module _ (N : Net) (m set : ℕ) (none : List ℕ) (held : Forest) (small : m ≤ 64) (c : CarriedOn N m (forest 0 none) set 64 held) where
   open Net N using (endA, endB)
 
   -- it has gauges of the set alone
   of-set : (j : ℕ) → T (bit (held .gauges) j) → T (bit set j)
-  of-set j t = elim (c .grown .new j t) [ inl before ↦ absurd (subst T (ap (λ (w : ℕ). bit w j) empty ∙ bit-none j) before) | inr t′ ↦ t′ ]
+  of-set j t = elim (c .grown .new j t) [ inl before ↦ absurd (subst T (bit-none j) before) | inr t′ ↦ t′ ]
 
   row-set : Within m (on (c .forest .row)) (bit set)
   row-set = within-trans (row-gauges N m held (c .forest)) (record { at = λ j l. of-set j })

@@ -8,8 +8,8 @@ use lib.ListN.{getD}
 use Rattle.matroid.specs.Set.{size}
 use Rattle.sets.specs.Bits.{bit}
 use Rattle.sets.specs.Joining.{Grown}
-use Rattle.loops.specs.declared.forest.Forest.{Forest}
-use Rattle.loops.specs.Net.{Net, joints, Walk}
+use Rattle.team.specs.Team.{joints}
+use Rattle.loops.specs.Net.{Net, Walk}
 use Rattle.loops.specs.Links.{walk-in}
 use Rattle.loops.specs.Groups.{Groups, InOneGroup, apart, on, carried, Accepted, groups-lead}
 use Rattle.loops.specs.Graphic.{graphic}
@@ -21,6 +21,14 @@ groupsOf table j = getD table j 0
 -- the table has these labels
 abbrev pub Holds : List ℕ → Groups → Type 0
 Holds table G = (j : ℕ) → j < joints → groupsOf table j ≡ G j
+
+-- accepted gauges, as a word, and the table of the groups of the joints that they connect
+pub record Forest : Type 0 where
+  pub gauges : ℕ
+  pub groups : List ℕ
+
+abbrev pub forest : ℕ → List ℕ → Forest
+forest gauges groups = record { gauges = gauges; groups = groups }
 
 -- the forest has the gauges of a row of accepted ones, and the groups carried along that row
 pub record Carried (N : Net) (m : ℕ) (forest : Forest) : Type 0 where

@@ -13,7 +13,8 @@ use Rattle.matroid.specs.Decide.{T?, dec-both, dec-iff, dec-implies, some?, all
 use Rattle.matroid.specs.Set.{Set, none, one, size, Within, with}
 use Rattle.matroid.specs.SetLaws.{differ, with-old, with-new, with-cases, with-least, within-none, within-trans, size-all}
 use Rattle.matroid.specs.Matroid.{Matroid, Gain}
-use Rattle.loops.specs.Net.{Net, net, joints, spans, ClosedLoop, back, LoopFree}
+use Rattle.team.specs.Team.{joints}
+use Rattle.loops.specs.Net.{Net, net, spans, ClosedLoop, back, LoopFree}
 use Rattle.loops.specs.Links.{spans-iff, loop-in, joins-relate, joins-unrelate, joins-spans}
 use Rattle.sets.proofs.Members.{run}
 use Rattle.loops.specs.Trail.{trail, close}

@@ -14,7 +14,8 @@ use Rattle.matroid.specs.Set.{Set, none, with}
 use Rattle.matroid.specs.SetLaws.{ne→eqb, eqb→ne, with-cases, with-new, with-old}
 use Rattle.matroid.specs.Division.{move}
 use Rattle.matroid.specs.DivisionLaws.{move-here, move-away}
-use Rattle.loops.specs.Net.{Net, spans, joints, Walk, stay, step, forth}
+use Rattle.team.specs.Team.{joints}
+use Rattle.loops.specs.Net.{Net, spans, Walk, stay, step, forth}
 use Rattle.loops.specs.Links.{walk-equivalence, joins-relate}
 
 -- ---- groups and the next groups

@@ -10,7 +10,8 @@ use Rattle.matroid.specs.Taut.{both, and-left}
 use Rattle.matroid.specs.Decide.{T?, dec-both, below-suc}
 use Rattle.matroid.specs.Set.{Set, size, without}
 use Rattle.matroid.specs.SetLaws.{eq→eqb, ne→eqb, with-cases, with-new, with-old, without-ne, size-same, size-without, size-inject}
-use Rattle.loops.specs.Net.{Net, spans, joints, Walk}
+use Rattle.team.specs.Team.{joints}
+use Rattle.loops.specs.Net.{Net, spans, Walk}
 use Rattle.loops.specs.Links.{spans-iff, walk-in}
 use Rattle.loops.specs.Groups.{Groups, relabel, joined, on, carried, relabel-hit, relabel-miss, same-label, row-together, row-label, row-least, row-lead}
 

@@ -7,7 +7,8 @@ use lib.Dec.{T, eqb, ltb, ltb→lt, lt→ltb}
 use Rattle.matroid.specs.Taut.{and-three}
 use Rattle.matroid.specs.Set.{Set}
 use Rattle.matroid.specs.SetLaws.{ne→eqb, eqb→ne}
-use Rattle.loops.specs.Net.{Net, joints, spans, Joins, forth, back, Link, ClosedLoop, Walk, stay, step}
+use Rattle.team.specs.Team.{joints}
+use Rattle.loops.specs.Net.{Net, spans, Joins, forth, back, Link, ClosedLoop, Walk, stay, step}
 
 pub spans-iff : (N : Net) (g : ℕ) → T (spans N g) ↔ ((N .endA g < joints) × (N .endB g < joints) × (N .endA g ≢ N .endB g))
 unfolding spans

@@ -5,10 +5,7 @@ use mathlib.Core.Path.{_≡_}
 use mathlib.Core.Bool.{_&&_, not}
 use lib.Dec.{T, eqb, ltb}
 use Rattle.matroid.specs.Set.{Set, Within}
-
--- how many joints there are
-unfoldable pub joints : ℕ
-joints = 64
+use Rattle.team.specs.Team.{joints}
 
 -- the two ends that each instrument names
 pub record Net : Type 0 where

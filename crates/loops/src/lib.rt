@@ -15,8 +15,9 @@ pub fn worth(first: [u8; 64], second: [u8; 64], m: usize, set: u64) -> usize
     requires { ⌜ m ≤ 64 ⌝ }
     ensures { λ r. ⌜ r ≡ worth (loopsOf m first second) (bit set) ⌝ }
 {
-    let whole = forest::carried(first, second, m, forest::empty(), set, 64);
-    sets::size_below(m, whole.gauges)
+    let mut groups = groups::alone();
+    let whole = forest::carried(first, second, m, &mut groups, 0, set, 64);
+    sets::size_below(m, whole)
 }
 
 // The instruments below m, outside an independent set, that keep it independent.
@@ -24,10 +25,11 @@ pub fn gains(first: [u8; 64], second: [u8; 64], m: usize, set: u64) -> u64
     requires { ⌜ m ≤ 64 ⌝ }
     ensures { λ r. ⌜ (loopsOf m first second .Indep (bit set) → MayJoin (loopsOf m first second) (bit set) r) ⌝ }
 {
-    let held = forest::carried(first, second, m, forest::empty(), set, 64);
+    let mut groups = groups::alone();
+    forest::carried(first, second, m, &mut groups, 0, set, 64);
     let mut free: u64 = 0;
     for g in 0..m {
-        if groups::apart(&held.groups, first[g], second[g]) {
+        if groups::apart(&groups, first[g], second[g]) {
             free = sets::with(free, g);
         }
     }
@@ -39,10 +41,11 @@ pub fn grown(first: [u8; 64], second: [u8; 64], m: usize, set: u64, from: u64, m
     requires { ⌜ m ≤ 64 ⌝ }
     ensures { λ r. ⌜ Grown (loopsOf m first second) set from most r ⌝ }
 {
-    let held = forest::carried(first, second, m, forest::empty(), set, 64);
-    if held.gauges != sets::both(set, sets::all_below(m)) {
+    let mut groups = groups::alone();
+    let held = forest::carried(first, second, m, &mut groups, 0, set, 64);
+    if held != sets::both(set, sets::all_below(m)) {
         return set;
     }
-    let larger = forest::carried(first, second, m, held, from, most);
-    sets::either(set, larger.gauges)
+    let larger = forest::carried(first, second, m, &mut groups, held, from, most);
+    sets::either(set, larger)
 }

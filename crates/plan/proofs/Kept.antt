@@ -16,7 +16,7 @@ use Rattle.command.specs.declared.Command.the-variants.{Missing, Unknown, Short
 use Rattle.command.specs.declared.State.{State}
 use Rattle.team.specs.declared.Team.{Team}
 use Rattle.command.specs.Command.{bytesOf}
-use Rattle.team.specs.Team.{capsKind, loopsKind, mountsKind, openedTeam}
+use Rattle.team.specs.Team.{capsKind, loopsKind, mountsKind, joints, openedTeam}
 use Rattle.judge.specs.Fault.{named, fault, isEnd}
 use Rattle.carry.specs.Carry.{namedTeam, start, openTeam, changedTeam, changedState}
 use Rattle.team.specs.Team.{blankTeam}
@@ -296,13 +296,13 @@ module _ (at : ℕ) (s : State) (rows : List Team) (k : Kept at s rows) where
       let team = openTeam rows (s .n) in
       let (p, e₁) = first-holds (not (eqb (team .kind) loopsKind)) 4 _ (omega arith) e in
       let (q, e₂) = first-holds (leb (s .m) i) 5 _ (omega arith) e₁ in
-      let (ra, e₃) = first-holds (leb 64 a) 5 _ (omega arith) e₂ in
-      let (rb, e₄) = first-holds (leb 64 b) 5 _ (omega arith) e₃ in
+      let (ra, e₃) = first-holds (leb joints a) 5 _ (omega arith) e₂ in
+      let (rb, e₄) = first-holds (leb joints b) 5 _ (omega arith) e₃ in
       let (d, e₅) = first-holds (eqb a b) 8 _ (omega arith) e₄ in
       let (t, _) = first-holds (named (team .named) i) 6 _ (omega arith) e₅ in
       let loops = of-kind p in
       let below = leb-false (s .m) i q in
-      naming-kept i 6 a b 255 255 4 (by-span a b loops below (leb-false 64 a ra) (leb-false 64 b rb) (eqb-false a b d)) (omega arith) below (omega arith) (inr (omega arith, omega arith)) t
+      naming-kept i 6 a b 255 255 4 (by-span a b loops below (leb-false joints a ra) (leb-false joints b rb) (eqb-false a b d)) (omega arith) below (omega arith) (inr (omega arith, omega arith)) t
 
   -- FIT fits an instrument for mounts that had none
   fit-kept-here : (i a b c d : ℕ) → fault at s (openTeam rows (s .n)) (Fit i a b c d) ≡ 0 → Kept (at + 6) s (set rows (s .n) (changedTeam (openTeam rows (s .n)) (Fit i a b c d)))

@@ -298,6 +298,34 @@ lent-no-days : (readPlan (lent 5 9 6 6) .refusal ≡ 17) × (readPlan (lent 5 9 
 unfolding readPlan readFrom commandAt fault changedTeam changedState
 lent-no-days = (refl, refl)
 
+-- ---- document 02, note 5: "joints are now 0 to 39, and 40 to 63 meet 5; document 01's joint cases become 27 and 28 in hexadecimal"
+
+-- a LOOPS team of 9 channels with a SPAN of one instrument
+abbrev spanned : (a b : ℕ) → List ℕ
+spanned a b = 1 ∷ 1 ∷ 1 ∷ 3 ∷ 9 ∷ 6 ∷ 0 ∷ a ∷ b ∷ 7 ∷ []
+
+-- 27 is a joint, first and second
+joint-27-first : worthIn (spanned 39 0) 0 1 ≡ 1
+unfolding worth bit readPlan readFrom commandAt fault changedTeam changedState decLe graphic within?
+joint-27-first = worth-by (spanned 39 0) 0 1 1 refl
+
+joint-27-second : worthIn (spanned 0 39) 0 1 ≡ 1
+unfolding worth bit readPlan readFrom commandAt fault changedTeam changedState decLe graphic within?
+joint-27-second = worth-by (spanned 0 39) 0 1 1 refl
+
+-- 28 is 5 at the offset of the command, first and second, and so is 3F
+joint-28-first : (readPlan (spanned 40 0) .refusal ≡ 5) × (readPlan (spanned 40 0) .place ≡ 5)
+unfolding readPlan readFrom commandAt fault changedTeam changedState
+joint-28-first = (refl, refl)
+
+joint-28-second : (readPlan (spanned 0 40) .refusal ≡ 5) × (readPlan (spanned 0 40) .place ≡ 5)
+unfolding readPlan readFrom commandAt fault changedTeam changedState
+joint-28-second = (refl, refl)
+
+joint-3F : (readPlan (spanned 63 0) .refusal ≡ 5) × (readPlan (spanned 0 63) .refusal ≡ 5)
+unfolding readPlan readFrom commandAt fault changedTeam changedState
+joint-3F = (refl, refl)
+
 -- ---- sets that are no words
 
 -- whether two sets have the same members below m

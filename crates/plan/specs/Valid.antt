@@ -5,14 +5,14 @@ use mathlib.Core.Logic.{_⊎_, _≢_}
 use lib.ListN.{length, getD}
 use Rattle.plan.specs.declared.Reading.{Reading}
 use Rattle.team.specs.declared.Team.{Team}
-use Rattle.team.specs.Team.{capsKind, loopsKind, mountsKind, blankTeam}
+use Rattle.team.specs.Team.{capsKind, loopsKind, mountsKind, joints, blankTeam}
 
 -- How a team of a kind has instrument i of m in its tables, by the byte of the command that names it and that command's operands after it:
--- not at all, put in a class below 16, with a span of two different joints below 64, or fit for some mounts. 255 fills the rest.
+-- not at all, put in a class below 16, with a span of two different joints, or fit for some mounts. 255 fills the rest.
 pub data Naming (m kind i : ℕ) : (command first second third fourth : ℕ) → Type 0 where
   unnamed : Naming m kind i 255 255 255 255 255
   by-put : (class : ℕ) → kind ≡ capsKind → i < m → class < 16 → Naming m kind i 5 class 255 255 255
-  by-span : (a b : ℕ) → kind ≡ loopsKind → i < m → a < 64 → b < 64 → a ≢ b → Naming m kind i 6 a b 255 255
+  by-span : (a b : ℕ) → kind ≡ loopsKind → i < m → a < joints → b < joints → a ≢ b → Naming m kind i 6 a b 255 255
   by-fit : (a b c d : ℕ) → kind ≡ mountsKind → i < m → Naming m kind i 9 a b c d
 
 -- the tables of a team of the plan, among m instruments

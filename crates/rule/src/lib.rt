@@ -7,6 +7,9 @@ use team::Team;
 mod hall;
 pub mod loan;
 
+// Joints are 0 to 39: written here once more, so that the tests see a wrong number in the code.
+pub const JOINTS: u8 = 40;
+
 // The members of a set that are of a class.
 fn of_class(class: [u8; 64], set: u64, c: usize) -> u64 {
     let mut part: u64 = 0;
@@ -46,10 +49,10 @@ fn within_caps(class: [u8; 64], cap: [u8; 16], set: u64) -> bool {
 
 // Whether an instrument's ends are two different joints.
 fn spans(a: u8, b: u8) -> bool {
-    if a > 63 {
+    if a >= JOINTS {
         return false;
     }
-    if b > 63 {
+    if b >= JOINTS {
         return false;
     }
     a != b

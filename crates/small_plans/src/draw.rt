@@ -1,5 +1,6 @@
 // Random small plans. The numbers are those of Lehmer's generator; each function hands on the last number that it drew.
 ghost use Prim.Native.Nat.{_≤_};
+use rule::JOINTS;
 use team::Team;
 
 // What each part of a plan is drawn from: eight bytes for the count of instruments, the count of teams, and a team's kind, channels, caps,
@@ -72,13 +73,13 @@ fn caps_of(bytes: [u8; 64]) -> [u8; 16] {
 
 // The second joint of a span: none where there is no first one, and the joint after the first where the drawn one is no other joint.
 fn other(a: u8, b: u8) -> u8 {
-    if a > 63 {
+    if a >= JOINTS {
         return 255;
     }
-    if a != b && b < 64 {
+    if a != b && b < JOINTS {
         return b;
     }
-    if a < 63 { a + 1 } else { 0 }
+    if a < JOINTS - 1 { a + 1 } else { 0 }
 }
 
 // Second joints, each different from the first.

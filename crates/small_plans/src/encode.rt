@@ -56,7 +56,7 @@ fn spans(out: &mut [u8; 160], at: usize, m: usize, first: [u8; 64], second: [u8;
     for g in 0..m {
         let a = first[g];
         let b = second[g];
-        if a < 64 {
+        if a < rule::JOINTS {
             let next = two(out, end, 6, g as u8);
             end = two(out, next, a, b);
         }

@@ -60,7 +60,7 @@ fn mixed() -> Family {
     let mut f = caps();
     f.kinds = [2, 3, 8, 2, 3, 8, 2, 8];
     f.classes = [0, 0, 0, 1, 1, 2, 255, 255];
-    f.joints = [0, 0, 0, 1, 1, 2, 63, 255];
+    f.joints = [0, 0, 0, 1, 1, 2, 39, 255];
     f
 }
 

@@ -1,2 +1,2 @@
--- Definitions to believe: Team (the bytes of the kinds, and the filler).
+-- Definitions to believe: Team (the bytes of the kinds, the number of joints, and the filler).
 pub mod Team

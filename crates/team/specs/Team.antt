@@ -1,4 +1,4 @@
--- A team of which the plan file names nothing, and the kinds of team.
+-- A team of which the plan file names nothing, the kinds of team, and the number of joints.
 use Prim.Native.Nat.{ℕ}
 use lib.ListN.{replicate}
 use Rattle.team.specs.declared.Team.{Team}
@@ -12,6 +12,10 @@ loopsKind = 3
 
 abbrev pub mountsKind : ℕ
 mountsKind = 8
+
+-- how many joints a LOOPS team can name: "joints are now 0 to 39" (document 02, note 5)
+unfoldable pub joints : ℕ
+joints = 40
 
 -- a team of which nothing is named but its kind, its channels and one cap for each class: "one fixed filler wherever the file names nothing",
 -- 255, which is no kind, no class, no joint and no command that names an instrument

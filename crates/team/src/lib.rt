@@ -2,6 +2,9 @@
 ghost use mathlib.Core.Path.{_≡_};
 ghost use Rattle.team.specs.Team.{blankTeam};
 
+// How many joints there are: a SPAN names two of 0 to 39.
+pub const JOINTS: usize = 40;
+
 // A team's kind (the byte that opens it) and operands. 255 stands wherever the file names nothing.
 pub struct Team {
     pub kind: u8,

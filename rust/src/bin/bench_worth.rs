@@ -2,7 +2,7 @@
 //! proved functions, on the same sets in the same run.
 
 use pool::bits;
-use pool::plan::{Classes, Kind, Team};
+use pool::plan::{Classes, Kind, Team, JOINTS};
 use pool::random::Random;
 use pool::sample::two_joints;
 use pool::writer::PlanWriter;
@@ -66,7 +66,7 @@ fn rows() -> Vec<Row> {
             worth: table_worth,
             gains: table_gains,
         },
-        on("LOOPS, sparse: 64 joints", loops(&mut random, 64)),
+        on("LOOPS, sparse: 40 joints", loops(&mut random, JOINTS)),
         on("LOOPS, 16 joints", loops(&mut random, 16)),
         on("LOOPS, dense: 6 joints", loops(&mut random, 6)),
         on(

@@ -4,6 +4,7 @@
 
 pub mod away;
 pub mod days;
+pub mod joints;
 pub mod nets;
 #[cfg(proved)]
 pub mod proved;
@@ -174,7 +175,7 @@ pub fn damage_commands(random: &mut Random, plan: &[u8]) -> Vec<u8> {
         2 => row.swap(at, to),
         3 => {
             let place = random.below(row[at].len());
-            let edges = [0, 1, 15, 16, 63, 64, 65, 254, 255, plan[2]];
+            let edges = [0, 1, 15, 16, 39, 40, 63, 64, 65, 254, 255, plan[2]];
             row[at][place] = random.pick(&edges);
         }
         _ => {
@@ -217,7 +218,7 @@ pub fn loose_commands(random: &mut Random) -> Vec<u8> {
 fn loose_command(random: &mut Random, byte: u8, out: &mut Vec<u8>) {
     out.push(byte);
     for _ in 0..operand_count(byte).unwrap_or(0) {
-        out.push(random.pick(&[0, 0, 1, 1, 2, 3, 4, 15, 16, 63, 64]));
+        out.push(random.pick(&[0, 0, 1, 1, 2, 3, 4, 15, 16, 39, 40, 63, 64]));
     }
     if matches!(byte, 0x0a | 0x0b) && random.chance(3, 4) {
         let end = out.len();

@@ -7,6 +7,13 @@ use pool::random::Random;
 use pool::sample::two_joints;
 use pool::writer::PlanWriter;
 
+/// The last joint, and half the number of joints.
+pub const LAST: u8 = JOINTS as u8 - 1;
+pub const HALF: u8 = JOINTS as u8 / 2;
+
+/// What a LOOPS team can find a set worth at most: all joints in one group.
+pub const MOST: u32 = LAST as u32;
+
 /// For each joint the joints of its group, bit k for joint k.
 pub type Groups = [u64; JOINTS];
 
@@ -101,43 +108,52 @@ fn reached(next: &Groups, from: usize) -> u64 {
     seen
 }
 
-/// Each joint and the next one, 0 to 63.
+/// Each joint and the next one, from 0 to the last.
 pub fn path() -> Net {
-    Net::of((0..63).map(|joint| (joint, joint + 1)))
+    Net::of((0..LAST).map(|joint| (joint, joint + 1)))
 }
 
-/// A path along all joints from the outer ones inwards: 0, 63, 1, 62 and so on.
+/// A path along all joints from the outer ones inwards: the first, the last, the second, the
+/// last but one and so on.
 pub fn path_inwards() -> Net {
     let at = |place: u8| match place & 1 {
         0 => place / 2,
-        _ => 63 - place / 2,
+        _ => LAST - place / 2,
     };
-    Net::of((0..63).map(|place| (at(place), at(place + 1))))
+    Net::of((0..LAST).map(|place| (at(place), at(place + 1))))
 }
 
 /// The path and the gauge that closes it.
 pub fn circle() -> Net {
-    path().and([(63, 0)])
+    path().and([(LAST, 0)])
+}
+
+/// A net with its first gauges again, turned, up to 64 instruments.
+pub fn doubled(net: Net) -> Net {
+    let again: Vec<(u8, u8)> = net.0.iter().flatten().map(|&(a, b)| (b, a)).collect();
+    let more = 64 - net.size();
+    net.and(again.into_iter().take(more))
 }
 
 /// A gauge from one joint to each other one.
 pub fn star(centre: u8) -> Net {
-    let others = (0..64).filter(|&joint| joint != centre);
+    let others = (0..=LAST).filter(|&joint| joint != centre);
     Net::of(others.map(|joint| (centre, joint)))
 }
 
-/// Pairs of joints, then pairs of pairs and so on, until all joints are one group.
+/// Pairs of joints, pairs of pairs and groups of eight, then each eight joined to the next.
 pub fn rounds() -> Net {
     let round = |step: u8| {
-        let firsts = (0..64).step_by(2 * usize::from(step));
+        let firsts = (0..=LAST).step_by(2 * usize::from(step));
         firsts.map(move |joint| (joint + step - 1, joint + 2 * step - 1))
     };
-    Net::of([1, 2, 4, 8, 16, 32].into_iter().flat_map(round))
+    let ends = (7..LAST).step_by(8);
+    Net::of([1, 2, 4].into_iter().flat_map(round)).and(ends.map(|joint| (joint, joint + 8)))
 }
 
-/// A group of the joints 0 to 9, one of 62 and 63, and a gauge last.
+/// A group of the joints 0 to 9, one of the last two joints, and a gauge last.
 pub fn two_groups(last: (u8, u8)) -> Net {
-    Net::of((0..9).map(|joint| (joint, joint + 1))).and([(63, 62), last])
+    Net::of((0..9).map(|joint| (joint, joint + 1))).and([(LAST, LAST - 1), last])
 }
 
 /// A gauge between every two of the first joints.
@@ -155,38 +171,45 @@ pub fn chosen_nets() -> Vec<(&'static str, Net, u32)> {
 
 /// Nets on all joints.
 fn trees_and_circles() -> Vec<(&'static str, Net, u32)> {
-    let two_circles = |joint: u8| (joint, joint / 32 * 32 + (joint + 1) % 32);
+    let two_circles = |joint: u8| (joint, joint / HALF * HALF + (joint + 1) % HALF);
+    let two_circles = Net::of((0..=LAST).map(two_circles));
+    let inwards = path_inwards().and([(0, HALF)]);
+    let leaves = star(HALF - 1).and([(0, LAST)]);
+    let again = star(HALF - 1).and([(LAST, HALF - 1)]);
     vec![
-        ("a path", path(), 63),
-        ("a path inwards", path_inwards(), 63),
-        ("a circle", circle(), 63),
-        (
-            "a circle, closed inwards",
-            path_inwards().and([(0, 32)]),
-            63,
-        ),
-        ("two circles", Net::of((0..64).map(two_circles)), 62),
-        ("a star at the first joint", star(0), 63),
-        ("a star at the last joint", star(63), 63),
-        ("a star and two leaves joined", star(31).and([(0, 63)]), 63),
-        ("a star and one gauge twice", star(31).and([(63, 31)]), 63),
-        ("pairs of pairs", rounds(), 63),
-        ("pairs of pairs, closed", rounds().and([(63, 0)]), 63),
+        ("a path", path(), MOST),
+        ("a path inwards", path_inwards(), MOST),
+        ("a circle", circle(), MOST),
+        ("a circle, closed inwards", inwards, MOST),
+        ("a circle, 64 gauges", doubled(circle()), MOST),
+        ("two circles", two_circles.clone(), MOST - 1),
+        ("two circles, 64 gauges", doubled(two_circles), MOST - 1),
+        ("a star at the first joint", star(0), MOST),
+        ("a star at the last joint", star(LAST), MOST),
+        ("a star, 64 gauges", doubled(star(LAST)), MOST),
+        ("a star and two leaves joined", leaves, MOST),
+        ("a star and one gauge twice", again, MOST),
+        ("pairs of pairs", rounds(), MOST),
+        ("pairs of pairs, closed", rounds().and([(LAST, 0)]), MOST),
     ]
 }
 
 /// Nets on a few joints.
 fn small_nets() -> Vec<(&'static str, Net, u32)> {
-    let turned = |item| if item % 2 == 0 { (0, 63) } else { (63, 0) };
+    let turned = |item| match item % 2 {
+        0 => (0, LAST),
+        _ => (LAST, 0),
+    };
     let within = [(1, 2), (2, 3), (3, 1), (3, 4)];
+    let (larger, smaller) = (two_groups((9, LAST - 1)), two_groups((LAST, 0)));
     vec![
-        ("one gauge", Net::of([(63, 0)]), 1),
+        ("one gauge", Net::of([(LAST, 0)]), 1),
         ("64 on one pair", Net::of([(1, 2); 64]), 1),
         ("64 on the outer pair", Net::of((0..64).map(turned)), 1),
         ("a triangle", Net::of([(1, 2), (2, 3), (1, 3)]), 2),
         ("a gauge within one group", Net::of(within), 3),
-        ("late, the larger group first", two_groups((9, 62)), 11),
-        ("late, the smaller group first", two_groups((63, 0)), 11),
+        ("late, the larger group first", larger, 11),
+        ("late, the smaller group first", smaller, 11),
         ("a complete net", complete(11), 10),
     ]
 }
@@ -197,10 +220,10 @@ fn nets_with_no_span() -> Vec<(&'static str, Net, u32)> {
     for ends in half.0.iter_mut().step_by(2) {
         *ends = None;
     }
-    let mut around = Net(vec![None]).and([(0, 63), (63, 0)]);
+    let mut around = Net(vec![None]).and([(0, LAST), (LAST, 0)]);
     around.0.push(None);
     vec![
-        ("every second gauge of a circle", half, 32),
+        ("every second gauge of a circle", half, HALF.into()),
         ("no SPAN first and last", around, 1),
         ("no SPAN at all", Net(vec![None; 64]), 0),
     ]
@@ -218,7 +241,7 @@ pub fn some_net(random: &mut Random, most: usize) -> Net {
 /// others, between neighbours, or any. In half of the nets some instruments have no SPAN.
 pub fn any_net(random: &mut Random, instruments: usize) -> Net {
     let few = random.between(2, 8);
-    let joints = random.pick(&[2, few, few, 16, 64, 64]);
+    let joints = random.pick(&[2, few, few, 16, JOINTS, JOINTS]);
     let sort = random.below(6);
     let rate = random.pick(&[4, 4, 3, 2]);
     let pairs = (0..instruments).map(|item| any_pair(random, sort, item, joints));
@@ -273,7 +296,7 @@ pub fn loops_plan(random: &mut Random, instruments: usize, teams: usize) -> Vec<
         let mut spans = alike.as_ref().unwrap_or(&own).spans();
         random.shuffle(&mut spans);
         let few = random.below(instruments / 2 + 2) as u8;
-        let channels = random.pick(&[255, 255, 255, 63, few, 1]);
+        let channels = random.pick(&[255, 255, 255, 63, LAST, LAST - 1, few, 1]);
         plan.loops(channels).add(&spans.concat());
     }
     plan.end()

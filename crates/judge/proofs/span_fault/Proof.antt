@@ -1,5 +1,6 @@
 use mathlib.Core.Path.{sym, _∙_}
 use Rattle.sets.proofs.Tests.{decided}
+use Rattle.team.specs.Team.{joints}
 use Rattle.row.specs.Row.{rowTeam}
 use borrow.Author.Needs.{needs}
 use Rattle.judge.proofs.span_fault.Statement.{statement}
@@ -17,26 +18,26 @@ unfolding rowTeam
 returns-2 c = let h1 = c .before .before .if1 .left in let h2 = c .if2 .taken in simp (decided, h1, h2)
 
 returns-3 : tie.Need-returns-3
-unfolding rowTeam
+unfolding rowTeam joints
 returns-3 c = let h1 = c .before .before .before .if1 .left in let h2 = c .before .if2 .left in let h3 = c .if3 .taken in simp (decided, h1, h2, h3)
 
 returns-4 : tie.Need-returns-4
-unfolding rowTeam
+unfolding rowTeam joints
 returns-4 c = let h1 = c .before .before .before .before .if1 .left in let h2 = c .before .before .if2 .left in let h3 = c .before .if3 .left in let h4 = c .if4 .taken in simp (decided, h1, h2, h3, h4)
 
 returns-5 : tie.Need-returns-5
-unfolding rowTeam
+unfolding rowTeam joints
 returns-5 c = let h1 = c .before .before .before .before .before .if1 .left in let h2 = c .before .before .before .if2 .left in let h3 = c .before .before .if3 .left in let h4 = c .before .if4 .left in let h5 = c .if5 .taken in simp (decided, h1, h2, h3, h4, h5)
 
 named-requires : tie.Need-named-requires
 named-requires c κs = search needs
 
 returns-6 : tie.Need-returns-6
-unfolding rowTeam
+unfolding rowTeam joints
 returns-6 c = let h1 = c .before .before .before .before .before .before .before .if1 .left in let h2 = c .before .before .before .before .before .if2 .left in let h3 = c .before .before .before .before .if3 .left in let h4 = c .before .before .before .if4 .left in let h5 = c .before .before .if5 .left in simp (decided, h1, h2, h3, h4, h5, sym (c .before .named .ensures) ∙ c .if6 .taken)
 
 returns-7 : tie.Need-returns-7
-unfolding rowTeam
+unfolding rowTeam joints
 returns-7 c = let h1 = c .before .before .before .before .before .before .before .if1 .left in let h2 = c .before .before .before .before .before .if2 .left in let h3 = c .before .before .before .before .if3 .left in let h4 = c .before .before .before .if4 .left in let h5 = c .before .before .if5 .left in simp (decided, h1, h2, h3, h4, h5, sym (c .before .named .ensures) ∙ c .if6 .left)
 
 pub span-fault-spec : {M : Type 1} → statement M

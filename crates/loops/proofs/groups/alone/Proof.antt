@@ -1,22 +1,21 @@
-use Prim.Native.Nat.{ℕ, _≤_, _<_, _-_}
-use mathlib.Core.Path.{_≡_, refl}
+use Prim.Native.Nat.{_≤_, _-_}
+use mathlib.Core.Path.{refl}
 use native.Mathlib.Omega.{arith}
-use lib.ListN.{length, getD, length-set}
-use Rattle.loops.specs.Net.{joints}
+use Rattle.team.specs.Team.{joints}
 use Rattle.loops.specs.Groups.{alone}
-use Rattle.loops.proofs.Entries.{entries-more}
+use Rattle.loops.proofs.Entries.{Replaced, replaced-none, replaced-next}
 use borrow.Author.Needs.{needs}
 use Rattle.loops.proofs.groups.alone.Statement.{statement}
 use Rattle.loops.proofs.groups.alone.Tie as tie
 
 abbrev Inv-loop : tie.InvT-loop
-Inv-loop label₀ j₀ label j = (j ≤ 64) × (length label ≡ 64) × ((k : ℕ) → k < j → getD label k 0 ≡ k)
+Inv-loop label₀ j₀ label j = (j ≤ joints) × Replaced alone label₀ j label
 
 abbrev μ-loop : tie.MeasureT-loop
-μ-loop label₀ j₀ label j = 64 - j
+μ-loop label₀ j₀ label j = joints - j
 
 loop-holds : tie.Need-loop-holds Inv-loop μ-loop
-loop-holds c = (search needs, refl, λ k l. absurd (omega arith))
+loop-holds c = (search needs, replaced-none _ _)
 
 cast-label : tie.Need-cast-label Inv-loop μ-loop
 cast-label c = search needs
@@ -28,14 +27,16 @@ add-j : tie.Need-add-j Inv-loop μ-loop
 add-j c = search needs
 
 loop-less : tie.Need-loop-less Inv-loop μ-loop
+unfolding joints
 loop-less c = search needs
 
 loop-again : tie.Need-loop-again Inv-loop μ-loop
-loop-again c = (search needs, simp length-set (c .before .loop .inv .1), entries-more alone (c .before .loop .label) (c .before .loop .j) (c .before .loop .j) (omega (arith, c .before .loop .inv .1)) (c .before .loop .inv .2) refl)
+unfolding joints
+loop-again c = (search needs, replaced-next _ _ _ _ _ (c .before .loop .inv .1) (omega arith) refl)
 
 returns : tie.Need-returns Inv-loop μ-loop
 unfolding joints
-returns c = λ k l. c .before .loop .inv .2 k (omega arith)
+returns c = λ k l. c .before .loop .inv .1 .done k (omega arith)
 
 pub alone-spec : {M : Type 1} → statement M
 alone-spec =
