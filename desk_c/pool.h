@@ -5,13 +5,15 @@
  * - A length is a count of bytes. A null pointer is allowed where the length is 0.
  * - Any bytes may be given as plan and as sheet: nothing about them has to be tested before a call.
  * - Every call ends. There is no global state and no heap, so calls from several threads do not meet.
- * - A refusal answers 65,536 x its number + its place; its place is below 65,536 and its number is 1 to 17.
- *   Refusals 1 to 9 and 17 are about the plan, 10 is about the buffer, 11 to 16 are about the sheet.
+ * - A refusal answers 65,536 x its number + its place; its place is below 65,536 and its number is 1 to 18.
+ *   Refusals 1 to 9, 17 and 18 are about the plan, 10 is about the buffer, 11 to 16 are about the sheet.
  * - The longest accepted plan has POOL_PLAN_MAX bytes, the longest accepted sheet POOL_SHEET_MAX bytes.
  *   The listing of an accepted sheet has at most POOL_LISTING_MAX bytes.
  * - A team with channels above 0 is present, and its share is for a cut into as many parts as teams are present.
  *   A team with 0 channels is away: it has its page on the sheet, but its share, set and parts are all 0.
  * - An instrument is worth nothing to a team whose days do not lie within the instrument's shelf days.
+ * - An instrument glued to a team is worth nothing to anyone and stays in the pool on the sheet. What the other
+ *   instruments are worth to a team is what they add to those glued to it; its shares and totals are of this worth.
  */
 #ifndef POOL_H
 #define POOL_H
@@ -25,7 +27,7 @@ extern "C" {
 #endif
 
 /* The limits of plans, sheets and listings. */
-#define POOL_PLAN_MAX 5080
+#define POOL_PLAN_MAX 5208
 #define POOL_SHEET_MAX 2642
 #define POOL_LISTING_MAX 512
 #define POOL_INSTRUMENTS_MAX 64

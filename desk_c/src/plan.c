@@ -13,6 +13,7 @@ static const struct plan_form forms[] = {
     [PLAN_FIT] = {"FIT", PLAN_MOUNTS, 5, 2, {OPERAND_INSTRUMENT, OPERAND_MOUNTS}},
     [PLAN_SHELF] = {"SHELF", 0, 5, 3, {OPERAND_INSTRUMENT, OPERAND_FROM, OPERAND_TO}},
     [PLAN_DAYS] = {"DAYS", 0, 4, 2, {OPERAND_FROM, OPERAND_TO}},
+    [PLAN_GLUE] = {"GLUE", 0, 1, 1, {OPERAND_INSTRUMENT}},
 };
 
 static const struct plan_operand operands[] = {
@@ -130,12 +131,18 @@ uint8_t plan_kind(const struct content *plan, size_t team)
     return opening == NULL ? 0 : opening[0];
 }
 
-/* Tells whether a team of an accepted plan is present: its channels are above 0. A team not in the plan is not. */
-bool plan_is_present(const struct content *plan, size_t team)
+/* The channels of a team of an accepted plan; 0 for a team not in the plan. */
+size_t plan_channels(const struct content *plan, size_t team)
 {
     const uint8_t *opening = find_team(plan, team);
 
-    return opening != NULL && opening[1] > 0;
+    return opening == NULL ? 0 : opening[1];
+}
+
+/* Tells whether a team of an accepted plan is present: its channels are above 0. A team not in the plan is not. */
+bool plan_is_present(const struct content *plan, size_t team)
+{
+    return plan_channels(plan, team) > 0;
 }
 
 /* The number of teams present in an accepted plan. */

@@ -17,7 +17,8 @@ enum plan_byte {
     PLAN_FIT = 0x09,
     PLAN_SHELF = 0x0A,
     PLAN_DAYS = 0x0B,
-    PLAN_LAST = PLAN_DAYS
+    PLAN_GLUE = 0x0C,
+    PLAN_LAST = PLAN_GLUE
 };
 
 /* What an operand stands for. */
@@ -88,6 +89,9 @@ size_t plan_teams(const struct content *plan);
 
 /* The command byte that opens a team of an accepted plan; 0 for a team not in the plan. */
 uint8_t plan_kind(const struct content *plan, size_t team);
+
+/* The channels of a team of an accepted plan; 0 for a team not in the plan. */
+size_t plan_channels(const struct content *plan, size_t team);
 
 /* Tells whether a team of an accepted plan is present: its channels are above 0. A team not in the plan is not. */
 bool plan_is_present(const struct content *plan, size_t team);

@@ -48,3 +48,13 @@ bool plan_is_usable(const struct content *plan, size_t team, size_t instrument)
 
     return shelf.from <= days.from && days.to <= shelf.to;
 }
+
+/* Prints that a team's days do not lie within the shelf days of an instrument. */
+void plan_print_off_shelf(FILE *out, const struct content *plan, size_t team, size_t instrument)
+{
+    struct plan_days days = plan_team_days(plan, team);
+    struct plan_days shelf = plan_shelf_days(plan, instrument);
+
+    fprintf(out, "The team's days, %u to %u, do not lie within the shelf days of instrument %zu, %u to %u.", days.from,
+            days.to, instrument, shelf.from, shelf.to);
+}

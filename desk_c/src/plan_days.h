@@ -4,6 +4,8 @@
 
 #include "content.h"
 
+#include <stdio.h>
+
 /* The size of a from and a to, in bytes. */
 #define PLAN_DAYS_SIZE 4
 
@@ -24,5 +26,8 @@ struct plan_days plan_team_days(const struct content *plan, size_t team);
 
 /* Tells whether a team's days lie within the shelf days of an instrument. */
 bool plan_is_usable(const struct content *plan, size_t team, size_t instrument);
+
+/* Prints that a team's days do not lie within the shelf days of an instrument. */
+void plan_print_off_shelf(FILE *out, const struct content *plan, size_t team, size_t instrument);
 
 #endif

@@ -1,4 +1,4 @@
-/* What is wrong with a plan, in words: refusals 1 to 9 and 17. */
+/* What is wrong with a plan, in words: refusals 1 to 9, 17 and 18. */
 #include "plan.h"
 #include "plan_days.h"
 #include "refusal.h"
@@ -100,7 +100,7 @@ static void print_misplaced(const struct fault *fault)
     else if (fault->command[0] == PLAN_SHELF && fault->place.teams > 0)
         fprintf(fault->out, "is in the wrong place; it belongs before the first team, and team %zu is open.",
                 fault->place.teams - 1);
-    else if (fault->command[0] == PLAN_DAYS && fault->place.teams == 0)
+    else if ((fault->command[0] == PLAN_DAYS || fault->command[0] == PLAN_GLUE) && fault->place.teams == 0)
         fputs("is in the wrong place; it belongs to a team, and no team is open.", fault->out);
     else
         fputs("is in the wrong place.", fault->out);
@@ -155,10 +155,11 @@ static bool names_same(const struct fault *fault, const uint8_t *command)
     return command[0] == fault->command[0] && (command[0] == PLAN_DAYS || command[1] == fault->command[1]);
 }
 
-/* Finds the first command of the open team, or before all teams, that names what the faulty one names. */
+/* Finds the first command that names what the faulty one names: in the open team or before all teams; a GLUE in any. */
 static struct plan_place first_naming(const struct fault *fault)
 {
-    struct plan_place place = plan_at(fault->plan, fault->place.team);
+    bool anywhere = fault->command[0] == PLAN_GLUE;
+    struct plan_place place = anywhere ? plan_first() : plan_at(fault->plan, fault->place.team);
 
     while (plan_next(fault->plan, &place))
         if (names_same(fault, fault->plan->at + place.offset))
@@ -181,13 +182,16 @@ static void print_named(const struct fault *fault)
         fprintf(fault->out, "names the shelf days of instrument %u a second time", fault->command[1]);
     else if (fault->command[0] == PLAN_DAYS)
         fprintf(fault->out, "names the days of team %zu a second time", fault->place.teams - 1);
+    else if (fault->command[0] == PLAN_GLUE)
+        fprintf(fault->out, "glues instrument %u to team %zu, and it is glued to team %zu already", fault->command[1],
+                fault->place.teams - 1, plan_glue_team(fault->plan, fault->command[1]));
     else
         fprintf(fault->out, "%s %u a second time in team %zu",
                 fault->command[0] == PLAN_CLASS ? "caps class" : "names instrument", fault->command[1],
                 fault->place.teams - 1);
 }
 
-/* 6: a class is capped twice, an instrument named twice in one team, or days named twice. */
+/* 6: a class is capped twice, an instrument named twice in one team or glued twice in any, or days named twice. */
 static void print_repeated(const struct fault *fault)
 {
     struct plan_place first = first_naming(fault);
@@ -234,7 +238,23 @@ static void print_wrong_days(const struct fault *fault)
     fprintf(fault->out, "has from %u and to %u; from has to be below to.", days.from, days.to);
 }
 
-/* Prints the fault of a command that is whole, for the numbers 4 to 8 and 17; answers false for another number. */
+/* 18: a team's glued instruments are not independent, by what stands before END; answers false if each team's are. */
+static bool print_wrong_glue(const struct fault *fault)
+{
+    struct content before = *fault->plan;
+    struct glue_fault glue;
+
+    before.length = fault->place.offset;
+    glue = plan_glue_fault(&before);
+    if (glue.cause == GLUE_STANDS)
+        return false;
+    print_command(fault);
+    fputs("ends a plan in which ", fault->out);
+    refusal_print_glue(fault->out, &before, &glue);
+    return true;
+}
+
+/* Prints the fault of a command that is whole, for the numbers 4 to 8, 17 and 18; answers false for another number. */
 static bool print_whole(const struct fault *fault, uint64_t number)
 {
     if (number == 4)
@@ -249,12 +269,14 @@ static bool print_whole(const struct fault *fault, uint64_t number)
         print_equal_joints(fault);
     else if (number == 17 && has_days(fault))
         print_wrong_days(fault);
+    else if (number == 18 && fault->command[0] == PLAN_END)
+        return print_wrong_glue(fault);
     else
         return false;
     return true;
 }
 
-/* Prints what is wrong with the plan, for the numbers 1 to 9 and 17; answers false for another refusal. */
+/* Prints what is wrong with the plan, for the numbers 1 to 9, 17 and 18; answers false for another refusal. */
 bool refusal_print_plan(FILE *out, const struct refusal *refusal)
 {
     struct fault fault = find_fault(out, refusal);

@@ -3,6 +3,7 @@
 #define REFUSAL_H
 
 #include "content.h"
+#include "plan_glue.h"
 #include "status.h"
 
 #include <stdio.h>
@@ -18,8 +19,11 @@ struct refusal {
 /* Prints a refusing answer of the library: a line with number and place, and a line that says what is wrong. */
 enum status refuse(FILE *out, uint64_t answer, const struct content *plan, const struct content *sheet);
 
-/* Prints what is wrong with the plan, for the numbers 1 to 9 and 17; answers false for another refusal. */
+/* Prints what is wrong with the plan, for the numbers 1 to 9, 17 and 18; answers false for another refusal. */
 bool refusal_print_plan(FILE *out, const struct refusal *refusal);
+
+/* Prints a team, its glued instruments and why they are not independent: a clause and a sentence. */
+void refusal_print_glue(FILE *out, const struct content *plan, const struct glue_fault *fault);
 
 /* Prints what is wrong with the buffer or the sheet, for the numbers 10 to 16; answers false for another refusal. */
 bool refusal_print_sheet(FILE *out, const struct refusal *refusal);

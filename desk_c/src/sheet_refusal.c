@@ -64,28 +64,45 @@ static size_t find_off_shelf(const struct subject *subject)
     return instrument;
 }
 
-/* Prints the days of a team and the shelf days of an instrument that do not hold them. */
-static void print_off_shelf(const struct subject *subject, size_t instrument)
+/* The lowest instrument given to a team that is glued to any team; their count if there is none. */
+static size_t find_glued(const struct subject *subject)
 {
-    struct plan_days days = plan_team_days(subject->plan, subject->place);
-    struct plan_days shelf = plan_shelf_days(subject->plan, instrument);
+    size_t instrument = 0;
 
-    fprintf(subject->out, "The team's days, %u to %u, do not lie within the shelf days of instrument %zu, %u to %u.",
-            days.from, days.to, instrument, shelf.from, shelf.to);
+    while (instrument < subject->shape.instruments &&
+           (sheet_owner(subject->sheet, instrument) != subject->place ||
+            plan_glue_team(subject->plan, instrument) == GLUE_NONE))
+        instrument++;
+    return instrument;
+}
+
+/* Prints what a team may hold, and which glued instruments count with it. */
+static void print_rule(const struct subject *subject)
+{
+    fprintf(subject->out, "%s, and no more than its channels.", rule(plan_kind(subject->plan, subject->place)));
+    if (plan_glue_count(subject->plan, subject->place) == 0)
+        return;
+    fputs(" The instruments glued to it count too:", subject->out);
+    plan_print_glued(subject->out, subject->plan, subject->place);
+    fputs(".", subject->out);
 }
 
 /* 13: a team's bundle is not independent. */
 static void print_dependent(const struct subject *subject)
 {
+    size_t glued = find_glued(subject);
     size_t off_shelf = find_off_shelf(subject);
 
     fprintf(subject->out, "Team %zu is given the instruments", subject->place);
     sheet_print_held(subject->out, subject->sheet, subject->shape, subject->place);
     fputs(", which are not independent for it. ", subject->out);
-    if (off_shelf < subject->shape.instruments)
-        print_off_shelf(subject, off_shelf);
+    if (glued < subject->shape.instruments)
+        fprintf(subject->out, "Instrument %zu is glued to team %zu and stays FF on the sheet.", glued,
+                plan_glue_team(subject->plan, glued));
+    else if (off_shelf < subject->shape.instruments)
+        plan_print_off_shelf(subject->out, subject->plan, subject->place, off_shelf);
     else
-        fprintf(subject->out, "%s, and no more than its channels.", rule(plan_kind(subject->plan, subject->place)));
+        print_rule(subject);
 }
 
 /* 14: the total is not the number of given instruments or not what BOUND's set shows. */

@@ -21,7 +21,8 @@ listed all.plan all.sheet 218 "$listing_all"
 listed week.plan week.sheet 84 "$listing_week"
 listed away.plan away.sheet 61 "$listing_away"
 listed term.plan term.sheet 84 "$listing_term"
-listed longest.plan dealt.sheet 450 "$listing_dealt"
+listed glued.plan glued.sheet 88 "$listing_glued"
+listed loans.plan dealt.sheet 450 "$listing_dealt"
 listed rings.plan dealt.sheet 450 "$listing_dealt"
 
 # Tests that a refusal of Check comes first, whatever the buffer's length: not_listed PLAN SHEET NUMBER PLACE
@@ -45,7 +46,7 @@ not_listed_plan 4 3 01 01 02 07
 not_listed_plan 5 5 01 01 02 02 01 05 02 00 07
 not_listed_plan 6 8 01 01 02 02 01 05 01 00 05 01 02 07
 not_listed_plan 2 5 01 01 02 08 01 09 00 01 00 00
-not_listed_plan 3 5 01 01 02 08 01 0C 00 01 00 00 00 07
+not_listed_plan 3 5 01 01 02 08 01 0D 00 01 00 00 00 07
 not_listed_plan 4 5 01 01 02 02 01 09 00 01 00 00 00 07
 not_listed_plan 5 5 01 01 02 08 01 09 02 01 00 00 00 07
 not_listed_plan 6 11 01 01 02 08 01 09 00 00 00 00 00 09 00 01 00 00 00 07
@@ -59,6 +60,13 @@ not_listed_plan 5 3 01 01 02 0A 02 07 00 07 00 02 01 07
 not_listed_plan 6 9 01 01 02 0A 00 00 00 07 00 0A 00 00 00 07 00 02 01 07
 not_listed_plan 17 3 01 01 02 0A 00 07 00 07 00 02 01 07
 not_listed_plan 17 10 01 01 02 02 01 0B 00 00 07 00 0B 08 00 07 00 07
+not_listed_plan 2 5 01 01 02 02 01 0C
+not_listed_plan 4 3 01 01 02 0C 00 02 01 07
+not_listed_plan 5 5 01 01 02 02 01 0C 02 07
+not_listed_plan 6 7 01 01 02 02 01 0C 00 0C 00 07
+not_listed_plan 6 9 01 01 02 02 01 0C 00 03 01 0C 00 07
+not_listed_plan 18 7 01 01 02 02 01 0C 00 07
+not_listed_plan 18 7 01 01 02 02 01 0C 00 07 00
 
 # Tests plan A's sheet with one byte changed: not_listed_byte OFFSET BYTE NUMBER PLACE
 not_listed_byte() {
@@ -81,5 +89,7 @@ patch mounts.sheet bad.sheet 9 00
 not_listed mounts.plan bad.sheet 13 0
 patch term.sheet bad.sheet 15 00
 not_listed term.plan bad.sheet 13 0
+patch glued.sheet bad.sheet 18 02
+not_listed glued.plan bad.sheet 13 2
 not_listed empty empty 1 0
 rm bad.sheet

@@ -15,7 +15,7 @@ TEAM 9 SHARE 5 HOLDS 9 21 33 45 57
 TEAM 10 SHARE 5 HOLDS 10 22 34 46 58
 TEAM 11 SHARE 5 HOLDS 11 23 35 47 59
 POOL'
-expect 'listing of twelve MOUNTS teams and 64 instruments' 0 "$listing_dealt" '' "$desk" explain longest.plan dealt.sheet
+expect 'listing of twelve MOUNTS teams and 64 instruments' 0 "$listing_dealt" '' "$desk" explain loans.plan dealt.sheet
 expect 'listing of twelve LOOPS teams and 64 instruments' 0 "$listing_dealt" '' "$desk" explain rings.plan dealt.sheet
 
 numbers="0 1 2 3 4 5 6 7 8 9 10 11 12 13 14 15 16 17 18 19 20 21 22 23 24 25 26 27 28 29 30 31 \
@@ -60,15 +60,15 @@ same_listing() {
     "$desk" build "$1" built.sheet && "$desk" explain "$1" >plan.listing &&
         "$desk" explain "$1" built.sheet >sheet.listing && [ -s plan.listing ] && cmp -s plan.listing sheet.listing
 }
-for plan in a zero six mounts week away term fits longest rings most all some teams; do
+for plan in a zero six mounts week away term glued fits loans longest rings most all some teams; do
     verdict "the listings of $plan.plan and of its sheet are the same" same_listing $plan.plan
 done
 
 # A refused sheet has no listing.
 patch dealt.sheet bad.sheet 2641 00
 refused_sheet 'the last byte of the longest sheet' 'REFUSED 12 2641
-Byte 2641 of the sheet, the command byte of END, is 00; it has to be 16.' longest.plan bad.sheet
+Byte 2641 of the sheet, the command byte of END, is 00; it has to be 16.' loans.plan bad.sheet
 patch dealt.sheet bad.sheet 3 3F
 refused_sheet 'the total of the longest sheet' 'REFUSED 14 0
-HEAD (byte 0) states the total 63, but the number of instruments given to teams is 64.' longest.plan bad.sheet
+HEAD (byte 0) states the total 63, but the number of instruments given to teams is 64.' loans.plan bad.sheet
 rm bad.sheet

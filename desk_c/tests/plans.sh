@@ -60,9 +60,9 @@ The plan ends at byte 11 without END (07); its last command is command 3, FIT at
 refused_plan 'no END' 'REFUSED 2 7
 The plan ends at byte 7 without END (07); its last command is command 3, LOOPS at byte 5.' 01 01 02 02 01 03 01
 refused_plan 'no command' 'REFUSED 3 5
-Command 3 of the plan, at byte 5, is 0C, which is no command; commands are 01 to 0B.' 01 01 02 02 01 0C
+Command 3 of the plan, at byte 5, is 0D, which is no command; commands are 01 to 0C.' 01 01 02 02 01 0D
 refused_plan 'byte 00' 'REFUSED 3 3
-Command 2 of the plan, at byte 3, is 00, which is no command; commands are 01 to 0B.' 01 01 02 00
+Command 2 of the plan, at byte 3, is 00, which is no command; commands are 01 to 0C.' 01 01 02 00
 refused_plan 'second START' 'REFUSED 4 3
 Command 2 of the plan, START at byte 3 (01 01 02), is a second START; START stands first and once.' 01 01 02 01 01 02 07
 refused_plan 'END without teams' 'REFUSED 4 3
@@ -154,15 +154,18 @@ refused_plan 'bytes after END' 'REFUSED 9 6
 The plan goes on at byte 6 after command 3, END at byte 5; nothing may follow END.' 01 01 02 02 01 07 00
 
 # Long plans: the longest one, with more bytes after it, and files without an end.
-verdict 'the longest plan has 5,080 bytes' test "$(wc -c <longest.plan)" -eq 5080
+verdict 'the longest plan has 5,208 bytes' test "$(wc -c <longest.plan)" -eq 5208
 quiet 'the longest plan is built' "$desk" build longest.plan longest.sheet
 verdict 'the longest sheet has 2,642 bytes' test "$(wc -c <longest.sheet)" -eq 2642
 expect 'the longest sheet is accepted' 0 ACCEPTED '' "$desk" check longest.plan longest.sheet
+verdict 'the longest plan without GLUEs has 5,080 bytes' test "$(wc -c <loans.plan)" -eq 5080
+quiet 'the longest plan without GLUEs is built' "$desk" build loans.plan loans.sheet
+expect 'the sheet of the longest plan without GLUEs is accepted' 0 ACCEPTED '' "$desk" check loans.plan loans.sheet
 quiet 'twelve LOOPS teams are built' "$desk" build rings.plan rings.sheet
 expect 'the sheet of twelve LOOPS teams is accepted' 0 ACCEPTED '' "$desk" check rings.plan rings.sheet
 
-after_longest='REFUSED 9 5080
-The plan goes on at byte 5080 after command 858, END at byte 5079; nothing may follow END.'
+after_longest='REFUSED 9 5208
+The plan goes on at byte 5208 after command 922, END at byte 5207; nothing may follow END.'
 hex one.byte 00
 cat longest.plan one.byte >long.plan
 expect 'the longest plan and a byte' 1 "$after_longest" '' "$desk" explain long.plan
@@ -173,10 +176,14 @@ dd if=/dev/zero bs=1024 count=2048 2>/dev/null >>huge.plan
 expect 'a plan of two megabytes' 1 "$after_longest" '' "$desk" explain huge.plan
 expect 'a plan without an end' 1 'REFUSED 1 0
 Command 1 of the plan, at byte 0, is 00; it has to be START (01).' '' "$desk" explain /dev/zero
-dd if=longest.plan of=cut.plan bs=5079 count=1 2>/dev/null
-expect 'the longest plan without END' 1 'REFUSED 2 5079
-The plan ends at byte 5079 without END (07); its last command is command 857, DAYS at byte 5074.' '' "$desk" explain cut.plan
-dd if=longest.plan of=cut.plan bs=5078 count=1 2>/dev/null
-expect 'the longest plan, cut within its last DAYS' 1 'REFUSED 2 5074
+dd if=longest.plan of=cut.plan bs=5207 count=1 2>/dev/null
+expect 'the longest plan without END' 1 'REFUSED 2 5207
+The plan ends at byte 5207 without END (07); its last command is command 921, GLUE at byte 5205.' '' "$desk" explain cut.plan
+dd if=longest.plan of=cut.plan bs=5206 count=1 2>/dev/null
+expect 'the longest plan, cut within its last GLUE' 1 'REFUSED 2 5205
+Command 921 of the plan, GLUE at byte 5205 (0C), is cut short; it takes 1 operand, and the file ends after 0.' \
+    '' "$desk" explain cut.plan
+dd if=loans.plan of=cut.plan bs=5078 count=1 2>/dev/null
+expect 'the longest plan without GLUEs, cut within its last DAYS' 1 'REFUSED 2 5074
 Command 857 of the plan, DAYS at byte 5074 (0B 07 00 0E), is cut short; it takes 4 bytes of operands, and the file ends after 3.' \
     '' "$desk" explain cut.plan

@@ -1,6 +1,8 @@
-/* Draws plans with loan days and spans and tries the library on them and on their damaged forms. */
+/* Draws plans with loan days, spans and glued instruments and tries the library on them and on their damaged forms. */
+#include "draw.h"
 #include "plan.h"
 #include "plan_days.h"
+#include "plan_glue.h"
 #include "sheet.h"
 
 #include <inttypes.h>
@@ -10,9 +12,6 @@
 /* The byte that fills a buffer before it is lent. */
 #define FILLER 0xA5
 
-/* Joints are 0 to 39. */
-#define JOINTS 40
-
 /* What was tried. */
 struct tally {
     size_t plans;     /* drawn */
@@ -20,31 +19,19 @@ struct tally {
     size_t outside;   /* instruments given to a team out of its days */
     size_t turned;    /* days with from not below to */
     size_t repeated;  /* days named a second time */
-    size_t misplaced; /* SHELFs after a team, DAYS before the first */
+    size_t misplaced; /* SHELFs after a team, DAYS and GLUEs before the first */
     size_t joints;    /* SPANs with a joint out of range */
+    size_t loose;     /* plans with a team whose glued instruments are not independent */
+    size_t glued;     /* glued instruments of plans without such a team */
+    size_t reglued;   /* GLUEs of a glued instrument */
+    size_t moved;     /* held instruments given to another team */
     size_t failures;
+    size_t causes[GLUE_MOUNT + 1]; /* the loose plans by cause */
 };
 
 static struct tally tally;
 static struct content plan, sheet;
-static uint64_t state = UINT64_C(88172645463325252);
-
-/* A number below a limit, by a shift register. */
-static unsigned draw(unsigned limit)
-{
-    state ^= state << 13;
-    state ^= state >> 7;
-    state ^= state << 17;
-    return (unsigned)(state >> 33) % limit;
-}
-
-/* Ends of days, close to each other and to the ends of all days. */
-static unsigned draw_end(void)
-{
-    static const unsigned ends[] = {0, 1, 7, 8, 255, 256, 257, 65534, 65535};
-
-    return ends[draw(sizeof ends / sizeof ends[0])];
-}
+static struct model model;
 
 /* Puts bytes into the plan before an offset. */
 static void insert(size_t offset, const uint8_t *bytes, size_t count)
@@ -59,87 +46,6 @@ static void cut(size_t offset, size_t count)
 {
     plan.length -= count;
     memmove(plan.at + offset, plan.at + offset + count, plan.length - offset);
-}
-
-/* Puts a byte at the end of the plan. */
-static void put(unsigned byte)
-{
-    plan.at[plan.length++] = (uint8_t)byte;
-}
-
-/* Puts a from and a to, with from below to. */
-static void put_days(void)
-{
-    unsigned from = draw_end(), to = draw_end();
-
-    while (from >= to) {
-        from = draw_end();
-        to = draw_end();
-    }
-    put(from & 0xFF);
-    put(from >> 8);
-    put(to & 0xFF);
-    put(to >> 8);
-}
-
-/* Puts the command that names an instrument of a team. */
-static void put_naming(unsigned kind, unsigned instrument)
-{
-    unsigned first = draw(5);
-
-    put(kind == PLAN_CAPS ? PLAN_PUT : kind == PLAN_LOOPS ? PLAN_SPAN : PLAN_FIT);
-    put(instrument);
-    put(kind == PLAN_CAPS ? first % 3 : kind == PLAN_LOOPS ? JOINTS - 1 - first : first);
-    if (kind == PLAN_LOOPS)
-        put(JOINTS - 1 - (first + 1 + draw(4)) % 5);
-    for (size_t byte = 1; kind == PLAN_MOUNTS && byte < 4; byte++)
-        put(0);
-}
-
-/* Puts a team of a drawn kind; its DAYS, if any, before or after its other commands. */
-static void put_team(unsigned instruments)
-{
-    static const unsigned kinds[] = {PLAN_CAPS, PLAN_LOOPS, PLAN_MOUNTS}, channels[] = {0, 1, 2, 3, 255};
-    unsigned kind = kinds[draw(3)], days = draw(3);
-
-    put(kind);
-    put(channels[draw(5)]);
-    for (unsigned class = 0; kind == PLAN_CAPS && class < 3; class++) {
-        put(PLAN_CLASS);
-        put(class);
-        put(draw(4));
-    }
-    if (days == 1) {
-        put(PLAN_DAYS);
-        put_days();
-    }
-    for (unsigned instrument = 0; instrument < instruments; instrument++)
-        if (draw(8) > 0)
-            put_naming(kind, instrument);
-    if (days == 2) {
-        put(PLAN_DAYS);
-        put_days();
-    }
-}
-
-/* Draws a plan that breaks no rule. */
-static void draw_plan(void)
-{
-    unsigned instruments = draw(11), teams = 1 + draw(4);
-
-    plan.length = 0;
-    put(PLAN_START);
-    put(1);
-    put(instruments);
-    for (unsigned instrument = 0; instrument < instruments; instrument++)
-        if (draw(2) > 0) {
-            put(PLAN_SHELF);
-            put(instrument);
-            put_days();
-        }
-    while (teams-- > 0)
-        put_team(instruments);
-    put(PLAN_END);
 }
 
 /* Prints a failure and counts it, unless two numbers are the same. */
@@ -175,6 +81,64 @@ static void try_outside(size_t team, size_t instrument)
            pool_check(plan.at, plan.length, sheet.at, sheet.length));
     *holder = before;
     tally.outside++;
+}
+
+/* Tests that a glued instrument is in the pool, and that no team can be given it. */
+static void try_glued(size_t instrument)
+{
+    uint8_t *holder = sheet.at + sheet_give(instrument) + 2;
+
+    expect("the team of a glued instrument", SHEET_POOL, *holder);
+    for (size_t team = 0; team < model.teams; team++) {
+        *holder = (uint8_t)team;
+        expect("Check of a glued instrument given to a team", 13 * POOL_REFUSAL + team,
+               pool_check(plan.at, plan.length, sheet.at, sheet.length));
+    }
+    *holder = SHEET_POOL;
+    tally.glued++;
+}
+
+/* The set of instruments that a team holds. */
+static unsigned held_by(size_t team)
+{
+    unsigned set = 0;
+
+    for (unsigned instrument = 0; instrument < model.instruments; instrument++)
+        if (sheet_owner(&sheet, instrument) == team)
+            set |= 1U << instrument;
+    return set;
+}
+
+/* Tests that an instrument moved to another team is refused exactly if that team's bundle is then not independent. */
+static void try_moved(size_t instrument, unsigned team)
+{
+    uint8_t *holder = sheet.at + sheet_give(instrument) + 2, before = *holder;
+    uint64_t answer;
+    bool stands;
+
+    *holder = (uint8_t)team;
+    stands = model_is_independent(&model, team, held_by(team));
+    answer = pool_check(plan.at, plan.length, sheet.at, sheet.length);
+    if (stands)
+        expect("Check of a moved instrument", 0, pool_number(answer) == 13);
+    else
+        expect("Check of an instrument moved in vain", 13 * POOL_REFUSAL + team, answer);
+    *holder = before;
+    tally.moved++;
+}
+
+/* Tries each glued instrument, and each held one with each other team. */
+static void try_owners(void)
+{
+    for (size_t instrument = 0; instrument < model.instruments; instrument++) {
+        size_t owner = sheet_owner(&sheet, instrument);
+
+        if (plan_glue_team(&plan, instrument) != GLUE_NONE)
+            try_glued(instrument);
+        for (unsigned team = 0; owner != SHEET_POOL && team < model.teams; team++)
+            if (team != owner)
+                try_moved(instrument, team);
+    }
 }
 
 /* Tries each team with each instrument that is out of its days. */
@@ -237,7 +201,7 @@ static void try_command(size_t offset)
 static void try_span(size_t offset)
 {
     uint8_t *joint = plan.at + offset + 2, before[] = {joint[0], joint[1]};
-    const uint8_t beyond[] = {JOINTS, 63, (uint8_t)(JOINTS + draw(256 - JOINTS))};
+    const uint8_t beyond[] = {DRAW_JOINTS, 63, (uint8_t)(DRAW_JOINTS + draw(256 - DRAW_JOINTS))};
 
     for (unsigned which = 1; which < 4; which++)
         for (size_t choice = 0; choice < sizeof beyond; choice++) {
@@ -249,7 +213,25 @@ static void try_span(size_t offset)
     memcpy(joint, before, sizeof before);
 }
 
-/* Tests each SHELF, each DAYS and each SPAN of the plan. */
+/* Tests a GLUE of an instrument that is not in the plan, and a second GLUE right after it and in the last team. */
+static void try_glue(size_t offset)
+{
+    uint8_t instrument = plan.at[offset + 1], again[] = {PLAN_GLUE, instrument};
+    size_t end = plan.length - 1;
+
+    plan.at[offset + 1] = (uint8_t)(model.instruments + draw(256 - model.instruments));
+    try_refused("a GLUE of an unknown instrument", 5, offset);
+    plan.at[offset + 1] = instrument;
+    insert(offset + 2, again, sizeof again);
+    try_refused("a second GLUE", 6, offset + 2);
+    cut(offset + 2, sizeof again);
+    insert(end, again, sizeof again);
+    try_refused("a second GLUE in the last team", 6, end);
+    cut(end, sizeof again);
+    tally.reglued += 2;
+}
+
+/* Tests each SHELF, each DAYS, each SPAN and each GLUE of the plan. */
 static void try_commands(void)
 {
     struct plan_place place = plan_first();
@@ -259,12 +241,15 @@ static void try_commands(void)
             try_command(place.previous);
         else if (plan.at[place.previous] == PLAN_SPAN)
             try_span(place.previous);
+        else if (plan.at[place.previous] == PLAN_GLUE)
+            try_glue(place.previous);
 }
 
-/* Tests a SHELF in the last team and a DAYS before the first. */
+/* Tests a SHELF in the last team, and a DAYS and a GLUE before the first. */
 static void try_misplaced(void)
 {
-    static const uint8_t shelf[] = {PLAN_SHELF, 0, 0, 0, 7, 0}, days[] = {PLAN_DAYS, 0, 0, 7, 0};
+    static const uint8_t shelf[] = {PLAN_SHELF, 0, 0, 0, 7, 0}, days[] = {PLAN_DAYS, 0, 0, 7, 0},
+                         glue[] = {PLAN_GLUE, 0};
     size_t end = plan.length - 1;
 
     insert(end, shelf, sizeof shelf);
@@ -273,7 +258,113 @@ static void try_misplaced(void)
     insert(3, days, sizeof days);
     try_refused("DAYS before the first team", 4, 3);
     cut(3, sizeof days);
-    tally.misplaced += 2;
+    insert(3, glue, sizeof glue);
+    try_refused("a GLUE before the first team", 4, 3);
+    cut(3, sizeof glue);
+    tally.misplaced += 3;
+}
+
+/* Draws an instrument that is glued to a team. */
+static unsigned draw_glued(unsigned team)
+{
+    unsigned instrument = draw(MODEL_INSTRUMENTS);
+
+    while ((model.team[team].glued >> instrument & 1) == 0)
+        instrument = draw(MODEL_INSTRUMENTS);
+    return instrument;
+}
+
+/* Takes the GLUE of an instrument of a team out of the plan and out of its model. */
+static void unglue(unsigned team)
+{
+    struct plan_place place = plan_first();
+    unsigned instrument = draw_glued(team);
+
+    while (plan_next(&plan, &place))
+        if (plan.at[place.previous] == PLAN_GLUE && plan.at[place.previous + 1] == instrument)
+            break;
+    cut(place.previous, 2);
+    model.team[team].glued &= ~(1U << instrument);
+}
+
+/* Tests that lower glued instruments are independent and those up to an instrument are not. */
+static void try_first_instrument(const struct glue_fault *fault)
+{
+    unsigned team = (unsigned)fault->team, instrument = 1U << fault->which, glued = model.team[team].glued;
+
+    expect("an instrument that is glued", instrument, instrument & glued);
+    expect("glued instruments below another", true, model_was_independent(&model, team, glued & (instrument - 1)));
+    expect("glued instruments up to one", false, model_was_independent(&model, team, glued & (2 * instrument - 1)));
+}
+
+/* Tests that a cause is so. */
+static void try_cause(const struct glue_fault *fault)
+{
+    const struct model_team *team = &model.team[fault->team];
+
+    switch (fault->cause) {
+    case GLUE_UNNAMED:
+        expect("the naming of an unnamed instrument", false, team->namings[fault->which].named);
+        break;
+    case GLUE_OFF_SHELF:
+        expect("the days of an instrument off the shelf", false, plan_is_usable(&plan, fault->team, fault->which));
+        break;
+    case GLUE_CHANNELS:
+        expect("the channels", team->channels, fault->limit);
+        expect("instruments beyond the channels", true, fault->count > fault->limit);
+        break;
+    case GLUE_CLASS:
+        expect("the cap", team->caps[fault->which], fault->limit);
+        expect("instruments beyond the cap", true, fault->count > fault->limit);
+        break;
+    case GLUE_LOOP:
+    case GLUE_NO_BITS:
+    case GLUE_MOUNT:
+        try_first_instrument(fault);
+        break;
+    case GLUE_STANDS:
+        expect("a cause", true, false);
+        break;
+    }
+    tally.causes[fault->cause]++;
+}
+
+/* Tests that the reason given in words is about the lowest team whose glued instruments are not independent, if any. */
+static void try_reason(unsigned team)
+{
+    struct glue_fault fault = plan_glue_fault(&plan);
+
+    expect("a reason", team < model.teams, fault.cause != GLUE_STANDS);
+    if (fault.cause == GLUE_STANDS)
+        return;
+    expect("the team of the reason", team, fault.team);
+    try_cause(&fault);
+}
+
+/* Tests that a plan with a team whose glued instruments are not independent is refused, with a byte after END too. */
+static void try_loose_team(unsigned team)
+{
+    size_t end = plan.length - 1;
+
+    try_reason(team);
+    try_refused("glued instruments that are not independent", 18, end);
+    plan.at[plan.length++] = (uint8_t)draw(256);
+    try_refused("glued instruments and a byte after END", 18, end);
+    plan.length--;
+    tally.loose++;
+}
+
+/* Takes GLUEs out of the plan, one after the other, until each team's glued instruments are independent. */
+static void try_loose(void)
+{
+    unsigned team = model_loose_team(&model);
+
+    while (team < model.teams) {
+        try_loose_team(team);
+        unglue(team);
+        team = model_loose_team(&model);
+    }
+    try_reason(team);
 }
 
 /* random COUNT draws that many plans and prints each failure, and how much was tried. */
@@ -285,14 +376,20 @@ int main(int argc, char *argv[])
         return 2;
     count = strtoul(argv[1], NULL, 10);
     for (tally.plans = 0; tally.plans < count; tally.plans++) {
-        draw_plan();
+        draw_plan(&plan, &model);
+        try_loose();
         try_build();
         try_division();
+        try_owners();
         try_commands();
         try_misplaced();
     }
-    printf("%zu plans, %zu given, %zu out of days, %zu turned, %zu repeated, %zu misplaced, %zu joints, %zu failures\n",
-           tally.plans, tally.given, tally.outside, tally.turned, tally.repeated, tally.misplaced, tally.joints,
+    printf("%zu plans, %zu given, %zu out of days, %zu turned, %zu repeated, %zu misplaced, %zu joints, ", tally.plans,
+           tally.given, tally.outside, tally.turned, tally.repeated, tally.misplaced, tally.joints);
+    printf("%zu loose (", tally.loose);
+    for (size_t cause = GLUE_UNNAMED; cause <= GLUE_MOUNT; cause++)
+        printf(cause == GLUE_UNNAMED ? "%zu" : " %zu", tally.causes[cause]);
+    printf("), %zu glued, %zu reglued, %zu moved, %zu failures\n", tally.glued, tally.reglued, tally.moved,
            tally.failures);
     return fflush(stdout) == 0 ? 0 : 2;
 }

@@ -34,7 +34,7 @@ for program in desk desk_checked; do
     work=$top/$program
     mkdir "$work" && cd "$work" || exit 2
     write_samples
-    for group in plans sheets away days listings arguments reading writing permissions; do
+    for group in plans sheets away days glue listings arguments reading writing permissions; do
         . "$tests/$group.sh"
     done
 done

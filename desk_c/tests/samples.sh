@@ -59,6 +59,18 @@ thirds='15 00 00 15 01 01 15 02 02 15 03 02'
 sheet_term="11 04 03 04 12 00 02 12 01 02 12 02 00 12 03 01 13 $none 14 00 01 $none $thirds 14 01 01 $none $thirds
     14 02 00 0C 00 00 00 00 00 00 00 15 00 00 15 01 00 15 02 00 15 03 00 16"
 
+# Six instruments and a team of each kind, each with one of 0, 4 and 5 glued to it. Team 0 has room for one more of 1, 2
+# and 3, team 1 for one of 1 and 2, and team 2 for 1 alone.
+plan_glued='01 01 06 02 02 04 00 04 05 00 00 05 01 00 05 02 00 05 03 00 0C 00
+    03 09 0C 04 06 01 01 02 06 02 02 03 06 03 01 03 06 04 01 03
+    08 03 09 01 03 00 00 00 0C 05 09 03 01 00 00 00 09 05 01 00 00 00 07'
+
+# The offsets in its sheet: HEAD 0, GIVEs 4, BOUND 22, SHARE 31, PARTs 42, SHARE 60, PARTs 71, SHARE 89, PARTs 100, END 118.
+whole='15 00 00 15 01 00 15 02 00 15 03 00 15 04 00 15 05 00'
+sheet_glued="11 06 03 03 12 00 FF 12 01 02 12 02 01 12 03 00 12 04 FF 12 05 FF 13 31 00 00 00 00 00 00 00
+    14 00 01 3F 00 00 00 00 00 00 00 15 00 00 15 01 00 15 02 01 15 03 02 15 04 00 15 05 00
+    14 01 00 39 00 00 00 00 00 00 00 $whole 14 02 00 3D 00 00 00 00 00 00 00 $whole 16"
+
 # Prints a SHELF in hexadecimal: days that hold 7 to 14.
 long_shelf() {
     printf ' 0A %02x %02x 00 %02x 00' "$1" $(($1 % 8)) $((14 + $1))
@@ -84,13 +96,23 @@ for_each() {
     done
 }
 
-# Prints twelve teams and END in hexadecimal: twelve_teams OPENING CHANNELS COMMAND DAYS
+# Prints the GLUEs of a team in hexadecimal: the twelve teams have the instruments in turn.
+turn_glue() {
+    gauge=$1
+    while [ "$gauge" -lt 64 ]; do
+        printf ' 0C %02x' "$gauge"
+        gauge=$((gauge + 12))
+    done
+}
+
+# Prints twelve teams and END in hexadecimal: twelve_teams OPENING CHANNELS COMMAND DAYS GLUES
 twelve_teams() {
     team=0
     while [ $team -lt 12 ]; do
         printf ' %s %s' "$1" "$2"
         for_each "$3"
         printf ' %s' "$4"
+        "$5" $team
         team=$((team + 1))
     done
     printf ' 07'
@@ -153,8 +175,11 @@ write_samples() {
     hex away.sheet $sheet_away
     hex term.plan $plan_term
     hex term.sheet $sheet_term
-    hex longest.plan 01 01 40 $(for_each long_shelf) $(twelve_teams 08 06 ring_fit '0B 07 00 0E 00')
-    hex rings.plan 01 01 40 $(twelve_teams 03 06 ring_span '')
+    hex glued.plan $plan_glued
+    hex glued.sheet $sheet_glued
+    hex longest.plan 01 01 40 $(for_each long_shelf) $(twelve_teams 08 06 ring_fit '0B 07 00 0E 00' turn_glue)
+    hex loans.plan 01 01 40 $(for_each long_shelf) $(twelve_teams 08 06 ring_fit '0B 07 00 0E 00' :)
+    hex rings.plan 01 01 40 $(twelve_teams 03 06 ring_span '' :)
     hex dealt.sheet $(dealt_sheet)
     hex some.plan $plan_some
     hex teams.plan $plan_teams

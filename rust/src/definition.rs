@@ -3,9 +3,16 @@
 use crate::bits;
 use crate::plan::{Bipartite, Classes, Graph, Kind, Plan, Team, CLASSES, JOINTS, MOUNTS};
 
-/// Independence: all on the shelf on the team's days, all named, the kind's own rule, and no
-/// more than the channels.
+/// Independence: no instrument glued to anyone and, together with the team's glued ones,
+/// independent before note 6.
 pub fn independent(plan: &Plan, team: &Team, set: u64) -> bool {
+    let glued = |item| plan.teams.iter().any(|team| bits::has(team.glued, item));
+    !bits::members(set).any(glued) && independent_before(plan, team, set | team.glued)
+}
+
+/// Independence before note 6: all on the shelf on the team's days, all named, the kind's own
+/// rule, and no more than the channels.
+pub fn independent_before(plan: &Plan, team: &Team, set: u64) -> bool {
     let fits = bits::size(set) <= u32::from(team.channels);
     fits && all_on_shelf(plan, team, set)
         && match &team.kind {

@@ -1,4 +1,4 @@
-//! Named example plans: plan A and six others of growing size. In each of those the
+//! Named example plans: plan A and seven others of growing size. In each of those the
 //! greatest total alone would leave some team below its share.
 
 use crate::writer::{plan_a, PlanWriter};
@@ -15,6 +15,7 @@ pub fn all() -> Vec<Example> {
     vec![
         example("plan-a", plan_a()),
         example("footbridge", footbridge()),
+        example("arch", arch()),
         example("aqueduct", aqueduct()),
         example("suspension", suspension()),
         example("viaduct", viaduct()),
@@ -37,6 +38,29 @@ fn footbridge() -> Vec<u8> {
     for item in 0..10 {
         plan.put(item, u8::from(item >= 7));
     }
+    plan.end()
+}
+
+/// Three teams, 15 instruments of an arch bridge: 0 to 6 measure strain, 7 to 11 tilt, 12 to 14
+/// water. The strain gauge 6 is on the shelf until day 14. A survey that logs anything takes all
+/// days; the water gauge 14 is glued to it. The rib is measured by the strain gauges until day
+/// 14; gauge 0 is glued there, on the joints of gauge 6. The springings have two mounts for
+/// tilt, of which the meters 9 to 11 fit the first alone, and two for water; the tilt meter 7 is
+/// glued there and can have either of the mounts for tilt.
+fn arch() -> Vec<u8> {
+    let mut plan = PlanWriter::start(15);
+    plan.shelf(6, 0, 14);
+    survey(&mut plan, 0..15, 15);
+    plan.glue(14);
+    plan.loops(8).glue(0);
+    let members = [(0, 1), (1, 2), (0, 2), (2, 3), (1, 3), (3, 4), (1, 0)];
+    for (item, (a, b)) in members.into_iter().enumerate() {
+        plan.span(item, a, b);
+    }
+    plan.days(0, 14);
+    let springings = [(7..9, 0b0011), (9..12, 0b0001), (12..15, 0b1100)];
+    fitter(&mut plan, &springings, 4);
+    plan.glue(7);
     plan.end()
 }
 

@@ -1,5 +1,6 @@
 //! Families of plans for the benchmark.
 
+use crate::glue::with_counts;
 use crate::plan::JOINTS;
 use crate::random::Random;
 use crate::sample::{all_kinds_plan, caps_and_loops_plan, two_joints};
@@ -12,7 +13,7 @@ pub struct Family {
 }
 
 /// The families of the benchmark.
-pub const FAMILIES: [Family; 14] = [
+pub const FAMILIES: [Family; 15] = [
     Family {
         name: "dense loops, 6 joints",
         plan: |random, m, n| loops_on(random, m, n, 6),
@@ -68,6 +69,10 @@ pub const FAMILIES: [Family; 14] = [
     Family {
         name: "with loan days",
         plan: loan_days,
+    },
+    Family {
+        name: "glued gauges",
+        plan: glued_gauges,
     },
 ];
 
@@ -261,4 +266,18 @@ fn loan_days(random: &mut Random, instruments: usize, teams: usize) -> Vec<u8> {
         plan.days(from as u16, to as u16);
     }
     plan.end()
+}
+
+/// Teams of the three kinds in turn, channels never short, with up to two instruments glued to
+/// each.
+fn glued_gauges(random: &mut Random, instruments: usize, teams: usize) -> Vec<u8> {
+    let mut plan = PlanWriter::start(instruments);
+    for team in 0..teams {
+        match team % 3 {
+            0 => puts(random, plan.caps(255), instruments),
+            1 => spans(random, plan.loops(255), instruments, 16),
+            _ => fits(random, plan.mounts(255), instruments),
+        }
+    }
+    with_counts(random, &plan.end(), &[2])
 }

@@ -15,6 +15,7 @@ pub mod family;
 #[cfg(proved)]
 pub mod ffi;
 pub mod form;
+pub mod glue;
 pub mod listing;
 pub mod matching;
 pub mod partition;

@@ -19,9 +19,9 @@ pub struct Seat<'a> {
 }
 
 impl<'a> Seat<'a> {
-    /// A seat whose bundle never grows beyond the channels or `most`.
+    /// A seat whose bundle never grows beyond the channels left to the team or `most`.
     pub fn new(team: &'a Team, most: u32) -> Self {
-        let limit = most.min(u32::from(team.channels));
+        let limit = most.min(team.room());
         Seat { team, limit }
     }
 

@@ -23,7 +23,8 @@ pub struct Plan {
     pub teams: Vec<Team>,
 }
 
-/// One team: its channels, its rule for independent sets and its loan days.
+/// One team: its channels, its rule for independent sets, its loan days and its glued
+/// instruments.
 #[derive(Clone, Debug, PartialEq, Eq)]
 pub struct Team {
     pub channels: u8,
@@ -32,6 +33,10 @@ pub struct Team {
     pub days: Option<Days>,
     /// The instruments whose shelf days hold the team's days, found at END.
     pub usable: u64,
+    /// The instruments that its GLUEs name.
+    pub glued: u64,
+    /// The instruments glued to any team, found at END.
+    pub all_glued: u64,
 }
 
 /// The three kinds of team.
@@ -78,6 +83,11 @@ impl Plan {
     /// p, the number of teams present.
     pub fn present(&self) -> usize {
         self.teams.iter().filter(|team| team.present()).count()
+    }
+
+    /// The instruments glued to any team.
+    pub fn glued(&self) -> u64 {
+        self.teams.iter().fold(0, |sum, team| sum | team.glued)
     }
 }
 
@@ -135,14 +145,10 @@ impl<'a> Reader<'a> {
         Reader { file, at: 0, plan }
     }
 
-    /// The plan with each team's usable instruments, unless bytes follow END.
-    fn finish(mut self) -> Result<Plan, Refusal> {
+    /// The plan after END, unless bytes follow.
+    fn finish(self) -> Result<Plan, Refusal> {
         if self.at < self.file.len() {
             return Err(Refusal::new(9, self.at));
-        }
-        for team in &mut self.plan.teams {
-            let shelf = &self.plan.shelf;
-            team.usable = shelf.usable(self.plan.instruments, team.days());
         }
         Ok(self.plan)
     }
@@ -175,7 +181,7 @@ impl<'a> Reader<'a> {
             0x04 | 0x05 => matches!(open, Some(Kind::Caps(_))),
             0x06 => matches!(open, Some(Kind::Loops(_))),
             0x09 => matches!(open, Some(Kind::Mounts(_))),
-            0x07 | 0x0b => open.is_some(),
+            0x07 | 0x0b | 0x0c => open.is_some(),
             0x0a => open.is_none(),
             _ => true,
         }
@@ -191,6 +197,7 @@ impl<'a> Reader<'a> {
             (0x04, &[class, cap]) => self.classes().class(class, cap),
             (0x05, &[item, class]) => self.classes().put(count, item, class),
             (0x06, &[item, a, b]) => self.graph().span(count, item, a, b),
+            (0x07, &[]) => self.settle(),
             (0x08, &[channels]) => self.open(channels, Kind::Mounts(Box::default())),
             (0x09, &[item, a, b, c, d]) => {
                 let mounts = u32::from_le_bytes([a, b, c, d]);
@@ -198,6 +205,7 @@ impl<'a> Reader<'a> {
             }
             (0x0a, &[item, a, b, c, d]) => self.plan.shelf.name(count, item, [a, b, c, d]),
             (0x0b, &[a, b, c, d]) => self.team().name_days([a, b, c, d]),
+            (0x0c, &[item]) => self.glue(item),
             _ => Ok(()),
         }
     }
@@ -221,8 +229,40 @@ impl<'a> Reader<'a> {
             kind,
             days: None,
             usable: 0,
+            glued: 0,
+            all_glued: 0,
         });
         Ok(())
+    }
+
+    /// GLUE: marks an instrument in the open team, once in the whole plan.
+    fn glue(&mut self, item: u8) -> Result<(), u8> {
+        let place = usize::from(item);
+        if place >= self.plan.instruments {
+            return Err(5);
+        }
+        if bits::has(self.plan.glued(), place) {
+            return Err(6);
+        }
+        self.team().glued |= bits::one(place);
+        Ok(())
+    }
+
+    /// END: finds what each team can use and what is glued, and tests that the glued
+    /// instruments of each team were independent before note 6.
+    fn settle(&mut self) -> Result<(), u8> {
+        let all_glued = self.plan.glued();
+        for team in &mut self.plan.teams {
+            let shelf = &self.plan.shelf;
+            team.usable = shelf.usable(self.plan.instruments, team.days());
+            team.all_glued = all_glued;
+        }
+        let mut teams = self.plan.teams.iter();
+        if teams.all(|team| team.independent_before(team.glued)) {
+            Ok(())
+        } else {
+            Err(18)
+        }
     }
 
     /// The open team.
@@ -259,7 +299,7 @@ impl<'a> Reader<'a> {
 pub fn operand_count(byte: u8) -> Option<usize> {
     match byte {
         0x07 => Some(0),
-        0x02 | 0x03 | 0x08 => Some(1),
+        0x02 | 0x03 | 0x08 | 0x0c => Some(1),
         0x01 | 0x04 | 0x05 => Some(2),
         0x06 => Some(3),
         0x0b => Some(4),

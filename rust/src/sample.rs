@@ -2,6 +2,7 @@
 
 use crate::bits;
 use crate::calendar::with_days;
+use crate::glue::{with_any_glue, with_glue};
 use crate::plan::JOINTS;
 use crate::random::Random;
 use crate::writer::PlanWriter;
@@ -10,22 +11,40 @@ use crate::writer::PlanWriter;
 const ALL_KINDS: [u8; 3] = [0x02, 0x03, 0x08];
 
 /// A random plan of this size, its teams of every kind and sort, present and away. Half of
-/// the plans have loan days.
+/// the plans have loan days, half have glued instruments.
 pub fn any_plan(random: &mut Random, instruments: usize, teams: usize) -> Vec<u8> {
     let plan = plan_with_leave(random, instruments, teams, &ALL_KINDS);
-    half_with_days(random, plan)
+    let plan = half_with_days(random, plan);
+    half_with_glue(random, plan)
 }
 
-/// A random plan with MOUNTS teams, present and away. Half of the plans have loan days.
+/// A random plan with MOUNTS teams, present and away. Half of the plans have loan days, half
+/// have glued instruments.
 pub fn mounts_plan(random: &mut Random, instruments: usize, teams: usize) -> Vec<u8> {
     let plan = plan_with_leave(random, instruments, teams, &[0x08]);
-    half_with_days(random, plan)
+    let plan = half_with_days(random, plan);
+    half_with_glue(random, plan)
 }
 
 /// A random plan with loan days, its teams of every kind and sort, present and away.
 pub fn days_plan(random: &mut Random, instruments: usize, teams: usize) -> Vec<u8> {
     let plan = plan_with_leave(random, instruments, teams, &ALL_KINDS);
     with_days(random, &plan)
+}
+
+/// A random plan with glued instruments, its teams of every kind and sort, present and away.
+/// Half of the plans have loan days.
+pub fn glue_plan(random: &mut Random, instruments: usize, teams: usize) -> Vec<u8> {
+    let plan = plan_with_leave(random, instruments, teams, &ALL_KINDS);
+    let plan = half_with_days(random, plan);
+    with_glue(random, &plan)
+}
+
+/// The same with instruments glued to any team, so that many of the plans are refused.
+pub fn any_glue_plan(random: &mut Random, instruments: usize, teams: usize) -> Vec<u8> {
+    let plan = plan_with_leave(random, instruments, teams, &ALL_KINDS);
+    let plan = half_with_days(random, plan);
+    with_any_glue(random, &plan)
 }
 
 /// A random plan with teams of every kind for the benchmark, few of them away.
@@ -42,6 +61,15 @@ pub fn caps_and_loops_plan(random: &mut Random, instruments: usize, teams: usize
 fn half_with_days(random: &mut Random, plan: Vec<u8>) -> Vec<u8> {
     if random.chance(1, 2) {
         with_days(random, &plan)
+    } else {
+        plan
+    }
+}
+
+/// Gives half of the plans glued instruments.
+fn half_with_glue(random: &mut Random, plan: Vec<u8>) -> Vec<u8> {
+    if random.chance(1, 2) {
+        with_glue(random, &plan)
     } else {
         plan
     }

@@ -1,4 +1,5 @@
-//! Worth as matroid rank, computed by counting, by union-find and by matching.
+//! Worth as matroid rank, computed by counting, by union-find and by matching. A team's glued
+//! instruments are contracted, those glued to other teams are deleted.
 
 use crate::bits;
 use crate::matching::Matching;
@@ -21,9 +22,26 @@ pub fn worth_in(plan: &Plan, team: usize, set: u64) -> u32 {
 }
 
 impl Team {
-    /// Worth: the size of the largest independent part of `set`, in which every instrument
-    /// is usable.
+    /// Worth: the size of the largest independent part of `set`. It is what the instruments
+    /// that are not glued add to the rank of the team's glued ones, which is their number.
     pub fn rank(&self, set: u64) -> u32 {
+        let joined = set & !self.all_glued | self.glued;
+        self.rank_before(joined) - bits::size(self.glued)
+    }
+
+    /// Whether the whole set is independent; a set with a glued instrument is not.
+    pub fn independent(&self, set: u64) -> bool {
+        self.rank(set) == bits::size(set)
+    }
+
+    /// The channels that the team's glued instruments leave.
+    pub fn room(&self) -> u32 {
+        u32::from(self.channels) - bits::size(self.glued)
+    }
+
+    /// Worth before note 6: the size of the largest part of `set` that is independent by days,
+    /// kind and channels.
+    fn rank_before(&self, set: u64) -> u32 {
         let channels = u32::from(self.channels);
         let set = set & self.usable;
         match &self.kind {
@@ -33,36 +51,40 @@ impl Team {
         }
     }
 
-    /// Whether the whole set is independent.
-    pub fn independent(&self, set: u64) -> bool {
-        self.rank(set) == bits::size(set)
+    /// Whether the whole set was independent before note 6.
+    pub fn independent_before(&self, set: u64) -> bool {
+        self.rank_before(set) == bits::size(set)
     }
 
     /// The instruments outside an independent bundle that may join it.
     pub fn gains(&self, bundle: u64) -> u64 {
-        if bits::size(bundle) >= u32::from(self.channels) {
+        if bits::size(bundle) >= self.room() {
             return 0;
         }
+        let joined = bundle | self.glued;
         let gains = match &self.kind {
-            Kind::Caps(classes) => classes.gains(bundle),
-            Kind::Loops(graph) => graph.gains(bundle),
-            Kind::Mounts(bipartite) => bipartite.gains(bundle),
+            Kind::Caps(classes) => classes.gains(joined),
+            Kind::Loops(graph) => graph.gains(joined),
+            Kind::Mounts(bipartite) => bipartite.gains(joined),
         };
-        gains & self.usable
+        gains & self.usable & !self.all_glued
     }
 
     /// Channels aside: the members of an independent bundle of which one must leave
     /// before `item` joins (its fundamental circuit), or nothing when it joins freely.
-    /// For an instrument that is not usable no member makes room.
+    /// For an instrument that is glued or not usable no member makes room; glued instruments
+    /// do not leave.
     pub fn circuit(&self, bundle: u64, item: usize) -> Option<u64> {
-        if !bits::has(self.usable, item) {
+        if !bits::has(self.usable & !self.all_glued, item) {
             return Some(0);
         }
-        match &self.kind {
-            Kind::Caps(classes) => classes.circuit(bundle, item),
-            Kind::Loops(graph) => graph.circuit(bundle, item),
-            Kind::Mounts(bipartite) => bipartite.circuit(bundle, item),
-        }
+        let joined = bundle | self.glued;
+        let circuit = match &self.kind {
+            Kind::Caps(classes) => classes.circuit(joined, item),
+            Kind::Loops(graph) => graph.circuit(joined, item),
+            Kind::Mounts(bipartite) => bipartite.circuit(joined, item),
+        };
+        circuit.map(|members| members & !self.glued)
     }
 }
 

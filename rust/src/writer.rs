@@ -55,6 +55,11 @@ impl PlanWriter {
         self.add(&[0x0b]).day(from).day(to)
     }
 
+    /// GLUE: marks an instrument as glued to the open team.
+    pub fn glue(&mut self, item: usize) -> &mut Self {
+        self.add(&[0x0c, item as u8])
+    }
+
     /// A day in two bytes.
     fn day(&mut self, day: u16) -> &mut Self {
         self.add(&day.to_le_bytes())

@@ -3,6 +3,7 @@
 mod common;
 
 use common::days::{plans_of_one, DAYS_FAULTS, TERM, WITHIN};
+use common::glue::{BRIDGE, GLUE_ACCEPTED, GLUE_FAULTS, NOT_INDEPENDENT};
 use common::joints::{one_span, JOINT_ACCEPTED, JOINT_FAULTS};
 use common::*;
 use pool::build::contents;
@@ -137,6 +138,26 @@ fn loan_days() {
 }
 
 #[test]
+fn glued_gauges() {
+    let Some(program) = &*DIVIDE else { return };
+    for (bytes, total, _) in GLUE_ACCEPTED {
+        let total = format!("TOTAL {total}\n");
+        let output = printed(program, &hex(bytes));
+        assert!(output.starts_with(&total), "{output}{bytes}");
+        assert_eq!(right_output(program, &hex(bytes)), 0);
+    }
+    assert_eq!(right_output(program, &hex(BRIDGE)), 0);
+    for text in NOT_INDEPENDENT {
+        let start = hex(text);
+        let line = format!("REFUSED 18 {}\n", start.len());
+        for rest in [&[0x07][..], &[0x07, 0x07]] {
+            let file = [&start[..], rest].concat();
+            assert_eq!(printed(program, &file), line, "{text}");
+        }
+    }
+}
+
+#[test]
 fn forty_joints() {
     let Some(program) = &*DIVIDE else { return };
     for (bytes, total) in JOINT_ACCEPTED {
@@ -165,7 +186,7 @@ fn refusals_of_each_number() {
         ("02 01 07", "REFUSED 1 0\n"),
         ("01 01", "REFUSED 2 0\n"),
         ("01 01 02 03 02", "REFUSED 2 5\n"),
-        ("01 01 02 02 09 0C 07", "REFUSED 3 5\n"),
+        ("01 01 02 02 09 0D 07", "REFUSED 3 5\n"),
         ("01 01 02 07", "REFUSED 4 3\n"),
         ("01 01 41", "REFUSED 5 0\n"),
         ("01 01 02 03 09 06 00 27 28 07", "REFUSED 5 5\n"),
@@ -173,12 +194,14 @@ fn refusals_of_each_number() {
         ("01 01 02 03 09 06 00 01 01 07", "REFUSED 8 5\n"),
         ("01 01 02 03 09 07 07", "REFUSED 9 6\n"),
         ("01 01 02 03 09 0B 07 00 07 00 07", "REFUSED 17 5\n"),
+        ("01 01 02 03 09 0C 00 07 07", "REFUSED 18 7\n"),
     ];
     for (bytes, line) in faults {
         assert_eq!(printed(program, &hex(bytes)), line, "{bytes}");
     }
     let faults = MOUNTS_FAULTS.into_iter().chain(DAYS_FAULTS);
-    for (bytes, number, place) in faults.chain(JOINT_FAULTS) {
+    let faults = faults.chain(JOINT_FAULTS).chain(GLUE_FAULTS);
+    for (bytes, number, place) in faults {
         let line = format!("REFUSED {number} {place}\n");
         assert_eq!(printed(program, &hex(bytes)), line, "{bytes}");
     }
@@ -200,9 +223,9 @@ fn long_input() {
     }
     let longest = longest_plan().end();
     assert_eq!(right_output(program, &longest), 0);
-    for count in [1, 3_111, 3_112, 3_113, 70_000] {
+    for count in [1, 2_983, 2_984, 2_985, 70_000] {
         let longer = [&longest[..], &vec![0x09; count]].concat();
-        assert_eq!(printed(program, &longer), "REFUSED 9 5080\n");
+        assert_eq!(printed(program, &longer), "REFUSED 9 5208\n");
     }
 }
 
@@ -242,5 +265,5 @@ fn damaged_plans() {
         }
         last = file;
     }
-    tally.seen((0..=9).chain([17]));
+    tally.seen((0..=9).chain([17, 18]));
 }

@@ -3,6 +3,7 @@
 mod common;
 
 use common::days::without_days;
+use common::glue::without_glue;
 use common::nets::LAST;
 use common::{hex, longest_plan, own_sheet, read, MOUNTS_FAULTS};
 use pool::build::{answer as build, contents, share_proof};
@@ -11,7 +12,7 @@ use pool::plan::{self, Kind};
 use pool::refusal::Refusal;
 use pool::worth::worth;
 use pool::writer::{plan_a, PlanWriter};
-use pool::{brute, definition};
+use pool::{bits, brute, definition};
 
 /// The refusal of a plan.
 fn refusal(file: &[u8]) -> Refusal {
@@ -188,33 +189,49 @@ fn accepted_edges() {
 #[test]
 fn the_longest_plan() {
     let file = longest_plan().end();
-    assert_eq!(file.len(), 3 + 64 * 6 + 12 * (2 + 64 * 6 + 5) + 1);
-    assert_eq!(file.len(), 5080);
+    assert_eq!(file.len(), 3 + 64 * 6 + 12 * (2 + 64 * 6 + 5) + 64 * 2 + 1);
+    assert_eq!(file.len(), 5208);
     let sheet = own_sheet(&file);
     assert_eq!(sheet.len(), 2642);
     assert_eq!(check(&file, &sheet), 0);
-    assert_eq!(refusal(&file[..5079]), Refusal::new(2, 5079));
-    for byte in [0x00, 0x07, 0x09, 0x0a, 0x0b, 0x0c] {
+    assert_eq!(refusal(&file[..5207]), Refusal::new(2, 5207));
+    for byte in [0x00, 0x07, 0x09, 0x0a, 0x0b, 0x0c, 0x0d] {
         let longer = [&file[..], &[byte]].concat();
-        assert_eq!(refusal(&longer), Refusal::new(9, 5080));
+        assert_eq!(refusal(&longer), Refusal::new(9, 5208));
     }
+}
+
+/// All instruments are glued: each team has five or six, and all stay in the pool.
+#[test]
+fn the_longest_plan_leaves_nothing_to_give() {
+    let plan = read(&longest_plan().end());
+    assert_eq!(plan.glued(), u64::MAX);
+    let sizes = plan.teams.iter().map(|team| bits::size(team.glued));
+    assert!(sizes.clone().all(|size| size == 5 || size == 6));
+    assert_eq!(sizes.sum::<u32>(), 64);
+    let found = contents(&plan);
+    assert_eq!(found.total(), 0);
+    assert!(found.shares.iter().all(|proof| proof.share == 0));
+    assert_eq!(plan.present(), 12);
 }
 
 #[test]
 fn nothing_can_be_added_to_the_longest_plan() {
     let add = |bytes: &str| refusal(&longest_plan().add(&hex(bytes)).end());
-    assert_eq!(add("0A 00 00 00 01 00"), Refusal::new(4, 5079));
-    assert_eq!(add("0B 00 00 01 00"), Refusal::new(6, 5079));
-    assert_eq!(add("09 00 01 00 00 00"), Refusal::new(6, 5079));
-    assert_eq!(add("08 01"), Refusal::new(7, 5079));
+    assert_eq!(add("0A 00 00 00 01 00"), Refusal::new(4, 5207));
+    assert_eq!(add("0B 00 00 01 00"), Refusal::new(6, 5207));
+    assert_eq!(add("09 00 01 00 00 00"), Refusal::new(6, 5207));
+    assert_eq!(add("0C 00"), Refusal::new(6, 5207));
+    assert_eq!(add("0C 3F"), Refusal::new(6, 5207));
+    assert_eq!(add("08 01"), Refusal::new(7, 5207));
 }
 
 #[test]
 fn a_thirteenth_team() {
     for opening in [0x02, 0x03, 0x08] {
         let more = longest_plan().add(&[opening, 1]).end();
-        assert_eq!(refusal(&more), Refusal::new(7, 5079));
-        assert_eq!(refusal(&more[..5080]), Refusal::new(2, 5079));
+        assert_eq!(refusal(&more), Refusal::new(7, 5207));
+        assert_eq!(refusal(&more[..5208]), Refusal::new(2, 5207));
         let mut teams = PlanWriter::start(0);
         for _ in 0..13 {
             teams.add(&[opening, 1]);
@@ -224,14 +241,23 @@ fn a_thirteenth_team() {
 }
 
 #[test]
-fn the_longest_plan_without_days() {
-    let file = without_days(&longest_plan().end());
+fn the_longest_plan_without_glue() {
+    let file = without_glue(&longest_plan().end());
+    assert_eq!(file.len(), 5080);
+    let sheet = own_sheet(&file);
+    assert_eq!(check(&file, &sheet), 0);
+    assert_eq!(sheet[3], 64);
+}
+
+#[test]
+fn the_longest_plan_without_glue_and_days() {
+    let file = without_days(&without_glue(&longest_plan().end()));
     assert_eq!(file.len(), 4636);
     assert_eq!(check(&file, &own_sheet(&file)), 0);
 }
 
 #[test]
-fn the_longest_plan_without_mounts_and_days() {
+fn the_longest_plan_of_loops_alone() {
     let mut plan = PlanWriter::start(64);
     for _ in 0..12 {
         plan.loops(255);

@@ -39,6 +39,7 @@ fn families_keep_their_places_and_plans() {
         ("all three kinds", 0x2334_165f_22c7_90dc),
         ("half the teams away", 0xdf72_e5ae_c945_ee1b),
         ("with loan days", 0x4c46_370d_8a57_1adc),
+        ("glued gauges", 0x8438_c3dd_b28d_0238),
     ];
     assert_eq!(FAMILIES.len(), expected.len());
     for (family, (name, value)) in expected.into_iter().enumerate() {
@@ -60,6 +61,17 @@ fn half_of_the_teams_are_away() {
     for n in 1..=12 {
         let plan = read(&(family.plan)(&mut random, 64, n));
         assert_eq!(plan.present(), n.div_ceil(2));
+    }
+}
+
+#[test]
+fn two_gauges_are_glued_to_each_team() {
+    let family = named("glued gauges");
+    let mut random = Random::new(603);
+    for _ in 0..50 {
+        let plan = read(&(family.plan)(&mut random, 64, 12));
+        assert!(plan.teams.iter().all(|team| bits::size(team.glued) == 2));
+        assert_eq!(bits::size(plan.glued()), 24);
     }
 }
 

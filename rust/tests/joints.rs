@@ -2,6 +2,7 @@
 
 mod common;
 
+use common::glue::without_glue;
 use common::joints::{
     damage_joint, every_byte_after, every_instrument, every_pair, first_fault, one_of_many,
     one_span, out_of_place_or_cut, two_spans, with_any_joints, Reading, FORTY, JOINT_ACCEPTED,
@@ -200,7 +201,7 @@ fn joints_changed() {
     let mut random = Random::new(1004);
     let mut tally = Tally::default();
     for _ in 0..cases() {
-        let file = any_plan(&mut random, 5, 3);
+        let file = without_glue(&any_plan(&mut random, 5, 3));
         let Some(other) = damage_joint(&mut random, &file) else {
             continue;
         };

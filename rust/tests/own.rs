@@ -2,7 +2,7 @@
 
 mod common;
 
-use common::{cases, damage_field, own_sheet, read, some_plan, Tally};
+use common::{cases, damage_field, own_sheet, read, some_plan, two_laws, Tally};
 use pool::bits;
 use pool::build::{contents, divide};
 use pool::check::{answer as check, layout_of, page};
@@ -71,7 +71,7 @@ fn gains_and_circuits_are_the_definition() {
             let with = bundle | bits::one(item);
             let free = independent(with);
             assert_eq!(bits::has(gains, item), free, "{file:x?} {bundle:b} {item}");
-            let room = bits::size(bundle) < u32::from(team.channels);
+            let room = bits::size(bundle) < team.room();
             let leaving = team.circuit(bundle, item);
             assert!(!room || leaving.is_none() == free);
             for out in bits::members(leaving.unwrap_or(0)) {
@@ -89,15 +89,7 @@ fn the_two_laws_hold() {
     let mut random = Random::new(3);
     for _ in 0..cases() {
         let file = some_plan(&mut random, 9, 1);
-        let plan = read(&file);
-        let team = &plan.teams[0];
-        let independent = |set| definition::independent(&plan, team, set);
-        let (a, b) = (random.word() & plan.all(), random.word() & plan.all());
-        assert!(independent(0));
-        assert!(!independent(a) || independent(a & b));
-        if independent(a) && independent(b) && bits::size(a) < bits::size(b) {
-            assert!(bits::members(b & !a).any(|item| independent(a | bits::one(item))));
-        }
+        two_laws(&mut random, &file);
     }
 }
 

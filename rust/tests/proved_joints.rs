@@ -3,6 +3,7 @@
 
 mod common;
 
+use common::glue::without_glue;
 use common::joints::{
     damage_joint, every_byte_after, every_instrument, every_pair, first_fault, one_of_many,
     one_span, out_of_place_or_cut, two_spans, with_any_joints, Reading, JOINT_ACCEPTED,
@@ -171,7 +172,7 @@ fn sheets_from_before_a_joint_was_changed() {
     for round in 0..cases() / 2 {
         let most = if round % 50 == 0 { 64 } else { 6 };
         let m = random.between(1, most);
-        let file = any_plan(&mut random, m, 4);
+        let file = without_glue(&any_plan(&mut random, m, 4));
         let sheet = proved_sheet(&file);
         if let Some(other) = damage_joint(&mut random, &file) {
             tally.count(same_verdict(&other, &sheet));

@@ -51,7 +51,7 @@ sets-part l at vs fits =
 
 module _ (row : List ℕ) (i : ℕ) where
   -- a cap that is written in a row is written in the team
-  pub row-cap : (v : ℕ) → i < 16 → rowTeam (set row (2 + i) v) ≡ changedTeam (rowTeam row) (Class i v)
+  pub row-cap : (v : ℕ) → i < 16 → rowTeam (set row (2 + i) v) ≡ changedTeam 0 (rowTeam row) (Class i v)
   unfolding rowTeam changedTeam
   row-cap v b =
       let table : (at many : ℕ) → 18 ≤ at → part (set row (2 + i) v) at many ≡ part row at many = λ at many low. part-before row at many (2 + i) v (omega arith) in
@@ -86,7 +86,7 @@ module _ (row : List ℕ) (i : ℕ) where
 
 module _ (row : List ℕ) (long : length row ≡ 343) where
   -- a command's byte and operands that are written at the end of a row are the team's days
-  pub row-days : (a b c d : ℕ) → rowTeam (stores row 1 338 0 (11 ∷ a ∷ b ∷ c ∷ d ∷ [])) ≡ changedTeam (rowTeam row) (Days a b c d)
+  pub row-days : (a b c d : ℕ) → rowTeam (stores row 1 338 0 (11 ∷ a ∷ b ∷ c ∷ d ∷ [])) ≡ changedTeam 0 (rowTeam row) (Days a b c d)
   unfolding rowTeam changedTeam
   row-days a b c d =
       let vs : List ℕ = 11 ∷ a ∷ b ∷ c ∷ d ∷ [] in
@@ -108,7 +108,7 @@ module _ (row : List ℕ) (long : length row ≡ 343) (i : ℕ) where
   past : (at many : ℕ) (w : ℕ) → at + many ≤ 343 → many ≤ i → part row at many ≡ set (part row at many) i w
   past at many w fits b = sym (set-out (part row at many) i w (omega (arith, part-length row at many (omega arith))))
 
-  pub cap-past : (v : ℕ) → 16 ≤ i → rowTeam row ≡ changedTeam (rowTeam row) (Class i v)
+  pub cap-past : (v : ℕ) → 16 ≤ i → rowTeam row ≡ changedTeam 0 (rowTeam row) (Class i v)
   unfolding rowTeam changedTeam
   cap-past v b = λ j. record {
     kind = getD row 0 0;

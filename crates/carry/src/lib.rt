@@ -3,7 +3,7 @@ ghost use mathlib.Core.Path.{_≡_};
 ghost use Prim.Native.Nat.{_≤_};
 ghost use lib.ListN.{length};
 ghost use Rattle.command.specs.declared.Command.the-variants.{Caps, Class, Days};
-ghost use Rattle.carry.specs.Carry.{start, namedTeam, changedTeam, changedState};
+ghost use Rattle.carry.specs.Carry.{start, namedTeam, rowOf, changedTeam, changedState};
 ghost use Rattle.row.specs.Row.{rowTeam};
 use command::Command;
 use command::State;
@@ -23,7 +23,7 @@ pub fn nothing() -> State
 // Caps a class of the open team.
 fn set_cap(row: &mut [u8], class: u8, cap: u8)
     requires { ⌜ length (now row) ≡ 343 ⌝ }
-    ensures { λ _. ⌜ rowTeam (now (row .exit)) ≡ changedTeam (rowTeam (now (row .entry))) (Class class cap) ⌝ }
+    ensures { λ _. ⌜ rowTeam (now (row .exit)) ≡ changedTeam 0 (rowTeam (now (row .entry))) (Class class cap) ⌝ }
 {
     if class < 16 {
         row[row::CAP + wide(class)] = cap;
@@ -48,7 +48,7 @@ fn set_named(row: &mut [u8], instrument: u8, command: u8, a: u8, b: u8, c: u8, d
 // Says the days of the open team: the byte of the command, and its operands.
 fn set_days(row: &mut [u8], a: u8, b: u8, c: u8, d: u8)
     requires { ⌜ length (now row) ≡ 343 ⌝ }
-    ensures { λ _. ⌜ rowTeam (now (row .exit)) ≡ changedTeam (rowTeam (now (row .entry))) (Days a b c d) ⌝ }
+    ensures { λ _. ⌜ rowTeam (now (row .exit)) ≡ changedTeam 0 (rowTeam (now (row .entry))) (Days a b c d) ⌝ }
 {
     row[row::DAYS] = 11;
     row[row::DAYS + 1] = a;
@@ -57,10 +57,34 @@ fn set_days(row: &mut [u8], a: u8, b: u8, c: u8, d: u8)
     row[row::DAYS + 4] = d;
 }
 
-// Changes the row that is open after a command. A team that the command opens takes the place of what the row held.
-pub fn change(row: &mut [u8], command: Command)
-    requires { ⌜ length (now row) ≡ 343 ⌝ }
-    ensures { λ _. ⌜ rowTeam (now (row .exit)) ≡ changedTeam (rowTeam (now (row .entry))) command ⌝ }
+// The row that a command works on, where n teams have been opened.
+pub fn row_of(n: usize, command: Command) -> usize
+    ensures { λ r. ⌜ r ≡ rowOf n command ⌝ }
+{
+    match command {
+        Command::Missing => n,
+        Command::Unknown => n,
+        Command::Short => n,
+        Command::Start(_, _) => n,
+        Command::Caps(_) => n,
+        Command::Loops(_) => n,
+        Command::Mounts(_) => n,
+        Command::Class(_, _) => n,
+        Command::Put(_, _) => n,
+        Command::Span(_, _, _) => n,
+        Command::Fit(_, _, _, _, _) => n,
+        Command::Shelf(_, _, _, _, _) => n,
+        Command::Days(_, _, _, _) => n,
+        Command::Glue(_) => 13,
+        Command::End => n,
+    }
+}
+
+// Changes the row that a command works on, where n teams have been opened, this one included. A team that the command opens takes the place of
+// what the row held.
+pub fn change(row: &mut [u8], n: usize, command: Command)
+    requires { ⌜ (length (now row) ≡ 343) × (n ≤ 12) ⌝ }
+    ensures { λ _. ⌜ rowTeam (now (row .exit)) ≡ changedTeam n (rowTeam (now (row .entry))) command ⌝ }
 {
     match command {
         Command::Missing => {}
@@ -76,6 +100,7 @@ pub fn change(row: &mut [u8], command: Command)
         Command::Fit(i, a, b, c, d) => set_named(row, i, 9, a, b, c, d),
         Command::Shelf(i, a, b, c, d) => set_named(row, i, 10, a, b, c, d),
         Command::Days(a, b, c, d) => set_days(row, a, b, c, d),
+        Command::Glue(i) => set_named(row, i, n as u8, 255, 255, 255, 255),
         Command::End => {}
     }
 }
@@ -123,6 +148,7 @@ pub fn changed_state(mut s: State, command: Command) -> State
         Command::Fit(_, _, _, _, _) => s,
         Command::Shelf(_, _, _, _, _) => s,
         Command::Days(_, _, _, _) => s,
+        Command::Glue(_) => s,
         Command::End => s,
     }
 }

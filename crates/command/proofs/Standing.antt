@@ -9,7 +9,7 @@ use lib.Dec.{eqb, leb}
 use lib.ListN.{length, getD}
 use borrow.Author.Tests.{leb-true, eqb-false}
 use Rattle.command.specs.declared.Command.{Command}
-use Rattle.command.specs.declared.Command.the-variants.{Missing, Unknown, Short, Start, Caps, Loops, Mounts, Class, Put, Span, Fit, Shelf, Days, End}
+use Rattle.command.specs.declared.Command.the-variants.{Missing, Unknown, Short, Start, Caps, Loops, Mounts, Class, Put, Span, Fit, Shelf, Days, Glue, End}
 use Rattle.command.specs.Command.{widthOf, commandBy, commandAt, bytesOf}
 
 -- a command has as many bytes as its first byte says
@@ -26,7 +26,8 @@ length-command file at (suc (suc (suc (suc (suc (suc (suc (suc zero)))))))) d = 
 length-command file at (suc (suc (suc (suc (suc (suc (suc (suc (suc zero))))))))) d = refl
 length-command file at (suc (suc (suc (suc (suc (suc (suc (suc (suc (suc zero)))))))))) d = refl
 length-command file at (suc (suc (suc (suc (suc (suc (suc (suc (suc (suc (suc zero))))))))))) d = refl
-length-command file at (suc (suc (suc (suc (suc (suc (suc (suc (suc (suc (suc (suc k)))))))))))) d = absurd (d refl)
+length-command file at (suc (suc (suc (suc (suc (suc (suc (suc (suc (suc (suc (suc zero)))))))))))) d = refl
+length-command file at (suc (suc (suc (suc (suc (suc (suc (suc (suc (suc (suc (suc (suc k))))))))))))) d = absurd (d refl)
 
 -- a command that stands whole at an offset
 pub record Whole (file : List ℕ) (at : ℕ) (command : Command) : Type 0 where

@@ -28,6 +28,7 @@ fn width_of(byte: u8) -> usize
         9 => 6,
         10 => 6,
         11 => 5,
+        12 => 2,
         _ => 0,
     }
 }
@@ -60,6 +61,7 @@ fn command_of(file: &[u8], at: usize, byte: u8) -> Command
             file[at + 5],
         ),
         11 => Command::Days(file[at + 1], file[at + 2], file[at + 3], file[at + 4]),
+        12 => Command::Glue(file[at + 1]),
         _ => Command::End,
     }
 }
@@ -100,6 +102,7 @@ pub fn width(command: Command) -> usize
         Command::Fit(_, _, _, _, _) => 6,
         Command::Shelf(_, _, _, _, _) => 6,
         Command::Days(_, _, _, _) => 5,
+        Command::Glue(_) => 2,
         Command::End => 1,
     }
 }

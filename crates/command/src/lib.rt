@@ -20,6 +20,7 @@ pub enum Command {
     Fit(u8, u8, u8, u8, u8),
     Shelf(u8, u8, u8, u8, u8),
     Days(u8, u8, u8, u8),
+    Glue(u8),
     End,
 }
 

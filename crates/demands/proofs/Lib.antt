@@ -6,3 +6,4 @@ pub mod Paging
 pub mod Listing
 pub mod Desking
 pub mod Demands
+pub mod Gluing

@@ -12,7 +12,7 @@ pub record DeskBuilds (plan before after : List ℕ) (r : ℕ) : Type 0 where
   pub place : ℕ
   pub long : ℕ
   pub is : r ≡ 65536 * number + place + long
-  pub small : (number ≤ 17) × (place < 65536) × (long < 65536)
+  pub small : (number ≤ 18) × (place < 65536) × (long < 65536)
   pub builds : Builds plan before after number place long
 
 -- the same of the listing
@@ -21,7 +21,7 @@ pub record DeskLists (plan sheet before after : List ℕ) (r : ℕ) : Type 0 whe
   pub place : ℕ
   pub long : ℕ
   pub is : r ≡ 65536 * number + place + long
-  pub small : (number ≤ 17) × (place < 65536) × (long < 65536)
+  pub small : (number ≤ 18) × (place < 65536) × (long < 65536)
   pub lists : Lists plan sheet before after number place long
 
 -- and Check's number and place
@@ -29,6 +29,6 @@ pub record DeskChecks (plan sheet : List ℕ) (r : ℕ) : Type 0 where
   pub number : ℕ
   pub place : ℕ
   pub is : r ≡ 65536 * number + place
-  pub small : (number ≤ 17) × (place < 65536)
+  pub small : (number ≤ 18) × (place < 65536)
   pub checks : Checks plan sheet number place
   pub accepts : Accepts plan sheet number

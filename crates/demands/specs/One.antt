@@ -101,12 +101,12 @@ Checks plan sheet number place = ChecksBy (readPlan plan) sheet number place
 
 -- ---- Read
 
--- The answer is the plan's reading. A refusal's number is at most 9, or 17, and its place at most 5,080; an accepted plan has at most 5,080 bytes,
+-- The answer is the plan's reading. A refusal's number is at most 9, or 17 or 18, and its place at most 5,208; an accepted plan has at most 5,208 bytes,
 -- "m (0 to 64)" instruments, and "their count n is 1 to 12".
 pub record Reads (plan : List ℕ) (r : Reading) : Type 0 where
   pub is : r ≡ readPlan plan
-  pub number : (r .refusal ≤ 9) ⊎ (r .refusal ≡ 17)
-  pub place : r .place ≤ 5080
-  pub short : r .refusal ≡ 0 → length plan ≤ 5080
+  pub number : (r .refusal ≤ 9) ⊎ (r .refusal ≡ 17) ⊎ (r .refusal ≡ 18)
+  pub place : r .place ≤ 5208
+  pub short : r .refusal ≡ 0 → length plan ≤ 5208
   pub instruments : r .refusal ≡ 0 → r .m ≤ 64
   pub teams : r .refusal ≡ 0 → (1 ≤ r .n) × (r .n ≤ 12)

@@ -1,4 +1,4 @@
--- Every refusal's number is at most 17 and its place below 65,536, so that the desk's one number tells both.
+-- Every refusal's number is at most 18 and its place below 65,536, so that the desk's one number tells both.
 use Prim.Native.Nat.{ℕ, _≤_, _<_}
 use mathlib.Core.Path.{_≡_, refl, sym, ap, _∙_}
 use mathlib.Core.Bool.{Bool, true, false, not, cond}
@@ -30,7 +30,7 @@ use Rattle.listing.proofs.Most.{listing-most}
 
 -- ---- Build's refusals
 
-pub built-small : (plan buffer : List ℕ) → (builtNumber (buildAnswer plan buffer) ≤ 17) × (builtPlace (buildAnswer plan buffer) < 65536)
+pub built-small : (plan buffer : List ℕ) → (builtNumber (buildAnswer plan buffer) ≤ 18) × (builtPlace (buildAnswer plan buffer) < 65536)
 unfolding answerBy
 built-small plan buffer = go (eqb (readPlan plan .refusal) 0) refl
   where
@@ -38,12 +38,12 @@ built-small plan buffer = go (eqb (readPlan plan .refusal) 0) refl
     r = readPlan plan
 
     long : (b : Bool) → lengthOf (r .m) (r .n) ≤ 2642
-        → (builtNumber (cond b (Refused 10 (lengthOf (r .m) (r .n))) (Wrote (lengthOf (r .m) (r .n)))) ≤ 17) × (builtPlace (cond b (Refused 10 (lengthOf (r .m) (r .n))) (Wrote (lengthOf (r .m) (r .n)))) < 65536)
+        → (builtNumber (cond b (Refused 10 (lengthOf (r .m) (r .n))) (Wrote (lengthOf (r .m) (r .n)))) ≤ 18) × (builtPlace (cond b (Refused 10 (lengthOf (r .m) (r .n))) (Wrote (lengthOf (r .m) (r .n)))) < 65536)
     long true l = (omega arith, omega arith)
     long false l = (omega arith, omega arith)
 
     go : (b : Bool) → eqb (r .refusal) 0 ≡ b
-        → (builtNumber (cond (not b) (Refused (r .refusal) (r .place)) (cond (ltb (length buffer) (lengthOf (r .m) (r .n))) (Refused 10 (lengthOf (r .m) (r .n))) (Wrote (lengthOf (r .m) (r .n))))) ≤ 17)
+        → (builtNumber (cond (not b) (Refused (r .refusal) (r .place)) (cond (ltb (length buffer) (lengthOf (r .m) (r .n))) (Refused 10 (lengthOf (r .m) (r .n))) (Wrote (lengthOf (r .m) (r .n))))) ≤ 18)
         × (builtPlace (cond (not b) (Refused (r .refusal) (r .place)) (cond (ltb (length buffer) (lengthOf (r .m) (r .n))) (Refused 10 (lengthOf (r .m) (r .n))) (Wrote (lengthOf (r .m) (r .n))))) < 65536)
     go true e = let v = bounded plan .valid (eqb-true (r .refusal) 0 e) in long (ltb (length buffer) (lengthOf (r .m) (r .n))) (length-le (r .m) (r .n) (v .small) (v .few))
     go false e = (let l = read-most plan in omega arith, let l = bounded plan .place in omega arith)
@@ -52,18 +52,18 @@ built-small plan buffer = go (eqb (readPlan plan .refusal) 0) refl
 
 -- a broken rule has a small number and place
 abbrev SmallRule : Rule Verdict → Type 0
-SmallRule x = x .broken ≡ true → (verdictNumber (x .answer) ≤ 17) × (verdictPlace (x .answer) < 65536)
+SmallRule x = x .broken ≡ true → (verdictNumber (x .answer) ≤ 18) × (verdictPlace (x .answer) < 65536)
 
-rules-small : (rs : List (Rule Verdict)) → All SmallRule rs → (verdictNumber (firstBroken verdict.Accepted rs) ≤ 17) × (verdictPlace (firstBroken verdict.Accepted rs) < 65536)
+rules-small : (rs : List (Rule Verdict)) → All SmallRule rs → (verdictNumber (firstBroken verdict.Accepted rs) ≤ 18) × (verdictPlace (firstBroken verdict.Accepted rs) < 65536)
 rules-small [] a = (omega arith, omega arith)
 rules-small (x ∷ xs) a = go (x .broken) refl (rules-small xs (a .1))
   where
-    go : (b : Bool) → x .broken ≡ b → (verdictNumber (firstBroken verdict.Accepted xs) ≤ 17) × (verdictPlace (firstBroken verdict.Accepted xs) < 65536)
-        → (verdictNumber (cond b (x .answer) (firstBroken verdict.Accepted xs)) ≤ 17) × (verdictPlace (cond b (x .answer) (firstBroken verdict.Accepted xs)) < 65536)
+    go : (b : Bool) → x .broken ≡ b → (verdictNumber (firstBroken verdict.Accepted xs) ≤ 18) × (verdictPlace (firstBroken verdict.Accepted xs) < 65536)
+        → (verdictNumber (cond b (x .answer) (firstBroken verdict.Accepted xs)) ≤ 18) × (verdictPlace (cond b (x .answer) (firstBroken verdict.Accepted xs)) < 65536)
     go true e rest = a .0 e
     go false e rest = rest
 
-pub verdict-small : (plan sheet : List ℕ) → (verdictNumber (checkSheet plan sheet) ≤ 17) × (verdictPlace (checkSheet plan sheet) < 65536)
+pub verdict-small : (plan sheet : List ℕ) → (verdictNumber (checkSheet plan sheet) ≤ 18) × (verdictPlace (checkSheet plan sheet) < 65536)
 unfolding verdictOf
 verdict-small plan sheet = go (eqb (readPlan plan .refusal) 0) refl
   where
@@ -71,7 +71,7 @@ verdict-small plan sheet = go (eqb (readPlan plan .refusal) 0) refl
     r = readPlan plan
 
     go : (b : Bool) → eqb (r .refusal) 0 ≡ b
-        → (verdictNumber (cond (not b) (verdict.Refused (r .refusal) (r .place)) (firstBroken verdict.Accepted (formRules verdict.Refused r sheet))) ≤ 17)
+        → (verdictNumber (cond (not b) (verdict.Refused (r .refusal) (r .place)) (firstBroken verdict.Accepted (formRules verdict.Refused r sheet))) ≤ 18)
         × (verdictPlace (cond (not b) (verdict.Refused (r .refusal) (r .place)) (firstBroken verdict.Accepted (formRules verdict.Refused r sheet))) < 65536)
     go false e = (let l = read-most plan in omega arith, let l = bounded plan .place in omega arith)
     go true e =
@@ -98,41 +98,41 @@ verdict-small plan sheet = go (eqb (readPlan plan .refusal) 0) refl
 -- ---- the listing's refusals
 
 -- a text of at most 512 bytes in a lent buffer
-text-small : (text buffer : List ℕ) → length text ≤ 512 → (builtNumber (textAnswer text buffer) ≤ 17) × (builtPlace (textAnswer text buffer) < 65536)
+text-small : (text buffer : List ℕ) → length text ≤ 512 → (builtNumber (textAnswer text buffer) ≤ 18) × (builtPlace (textAnswer text buffer) < 65536)
 unfolding textAnswer
 text-small text buffer l = go (ltb (length buffer) (length text))
   where
-    go : (b : Bool) → (builtNumber (cond b (Refused 10 (length text)) (Wrote (length text))) ≤ 17) × (builtPlace (cond b (Refused 10 (length text)) (Wrote (length text))) < 65536)
+    go : (b : Bool) → (builtNumber (cond b (Refused 10 (length text)) (Wrote (length text))) ≤ 18) × (builtPlace (cond b (Refused 10 (length text)) (Wrote (length text))) < 65536)
     go true = (omega arith, omega arith)
     go false = (omega arith, omega arith)
 
 -- Check's refusal, or 10 at the length of the listing
-pub list-small : (plan sheet buffer : List ℕ) → (builtNumber (listAnswer plan sheet buffer) ≤ 17) × (builtPlace (listAnswer plan sheet buffer) < 65536)
+pub list-small : (plan sheet buffer : List ℕ) → (builtNumber (listAnswer plan sheet buffer) ≤ 18) × (builtPlace (listAnswer plan sheet buffer) < 65536)
 list-small plan sheet buffer = go (checkSheet plan sheet) refl
   where
     text : List ℕ
     text = listingBy (readPlan plan) sheet
 
-    go : (v : Verdict) → checkSheet plan sheet ≡ v → (builtNumber (listAnswerBy v text buffer) ≤ 17) × (builtPlace (listAnswerBy v text buffer) < 65536)
+    go : (v : Verdict) → checkSheet plan sheet ≡ v → (builtNumber (listAnswerBy v text buffer) ≤ 18) × (builtPlace (listAnswerBy v text buffer) < 65536)
     go verdict.Accepted e = text-small text buffer (listing-most plan sheet e)
     go (verdict.Refused number place) e = rw e at (verdict-small plan sheet)
 
 -- ---- the same of an answer that is a refusal
 
 -- of Build and of the listing, by what is known of the answer
-refusal-told : (answer a : Built) (n p : ℕ) → (builtNumber answer ≤ 17) × (builtPlace answer < 65536) → a ≡ answer → a ≡ Refused n p → (n ≤ 17) × (p < 65536)
+refusal-told : (answer a : Built) (n p : ℕ) → (builtNumber answer ≤ 18) × (builtPlace answer < 65536) → a ≡ answer → a ≡ Refused n p → (n ≤ 18) × (p < 65536)
 refusal-told answer a n p s e t =
     let number′ = ap builtNumber (sym t ∙ e) in
     let place′ = ap builtPlace (sym t ∙ e) in
     (omega arith, omega arith)
 
-pub built-told : (plan buffer : List ℕ) (a : Built) (n p : ℕ) → a ≡ buildAnswer plan buffer → a ≡ Refused n p → (n ≤ 17) × (p < 65536)
+pub built-told : (plan buffer : List ℕ) (a : Built) (n p : ℕ) → a ≡ buildAnswer plan buffer → a ≡ Refused n p → (n ≤ 18) × (p < 65536)
 built-told plan buffer a n p = refusal-told (buildAnswer plan buffer) a n p (built-small plan buffer)
 
-pub list-told : (plan sheet buffer : List ℕ) (a : Built) (n p : ℕ) → a ≡ listAnswer plan sheet buffer → a ≡ Refused n p → (n ≤ 17) × (p < 65536)
+pub list-told : (plan sheet buffer : List ℕ) (a : Built) (n p : ℕ) → a ≡ listAnswer plan sheet buffer → a ≡ Refused n p → (n ≤ 18) × (p < 65536)
 list-told plan sheet buffer a n p = refusal-told (listAnswer plan sheet buffer) a n p (list-small plan sheet buffer)
 
-pub verdict-told : (plan sheet : List ℕ) (v : Verdict) (n p : ℕ) → v ≡ checkSheet plan sheet → v ≡ verdict.Refused n p → (n ≤ 17) × (p < 65536)
+pub verdict-told : (plan sheet : List ℕ) (v : Verdict) (n p : ℕ) → v ≡ checkSheet plan sheet → v ≡ verdict.Refused n p → (n ≤ 18) × (p < 65536)
 verdict-told plan sheet v n p e t =
     let s = verdict-small plan sheet in
     let number′ = ap verdictNumber (sym t ∙ e) in

@@ -6,6 +6,7 @@ use lines::print;
 mod building;
 mod changing;
 mod giving;
+mod glue;
 mod listing;
 mod loan;
 mod naming;

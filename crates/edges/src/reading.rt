@@ -1,5 +1,6 @@
 // The verb `read HEX`: what reading a plan comes to.
 ghost use Prim.Native.Nat.{_<_};
+use crate::glue;
 use crate::loan;
 use crate::naming;
 use crate::space;
@@ -81,18 +82,21 @@ fn teams(n: usize, table: [Team; 12], days: [Days; 12]) {
     }
 }
 
-// `REFUSED number place`, or `m n`, the shelf days, and then each team, and the place after the last, after a semicolon.
+// `REFUSED number place`, or `m n`, the shelf days, the glued instruments, and then each team, and the place after the last, after a semicolon.
 fn show(r: Reading) {
     let shelf = r.shelf;
     let days = r.days;
+    let glued = r.glue;
     if r.refusal != 0 {
         print::refusal(r.refusal, r.place);
         loan::refused(shelf, days);
+        glue::refused(glued);
         return;
     }
     print::marked(b"", r.m as u64);
     print::marked(b" ", r.n as u64);
     loan::shelf(shelf);
+    glue::show(glued);
     let table = r.teams;
     teams(r.n, table, days);
 }

@@ -9,7 +9,7 @@ pub fn of_input() -> [u8; 262144]
     [0; 262144]
 }
 
-// 8,192 zeros, for a plan: the longest that is accepted has 5,080 bytes.
+// 8,192 zeros, for a plan: the longest that is accepted has 5,208 bytes.
 pub fn of_plan() -> [u8; 8192]
     ensures { λ r. ⌜ 8192 ≡ length r ⌝ }
 {

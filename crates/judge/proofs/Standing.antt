@@ -5,7 +5,7 @@ use mathlib.Core.Logic.{_≢_, ⊎-elim}
 use mathlib.Core.List.{List}
 use native.Mathlib.Omega.{arith}
 use Rattle.command.specs.declared.Command.{Command}
-use Rattle.command.specs.declared.Command.the-variants.{Missing, Unknown, Short, Start, Caps, Loops, Mounts, Class, Put, Span, Fit, Shelf, Days, End}
+use Rattle.command.specs.declared.Command.the-variants.{Missing, Unknown, Short, Start, Caps, Loops, Mounts, Class, Put, Span, Fit, Shelf, Days, Glue, End}
 use Rattle.command.specs.declared.State.{State}
 use Rattle.team.specs.declared.Team.{Team}
 use Rattle.command.specs.Command.{commandAt, bytesOf}
@@ -28,6 +28,7 @@ breaks at s team (Span instrument a b) z e = omega arith
 breaks at s team (Fit instrument a b c d) z e = omega arith
 breaks at s team (Shelf instrument a b c d) z e = omega arith
 breaks at s team (Days a b c d) z e = omega arith
+breaks at s team (Glue instrument) z e = omega arith
 breaks at s team End z e = omega arith
 
 -- a command that breaks no rule stands whole

@@ -1,11 +1,11 @@
--- Which rule a command breaks (document 01, "Read"; document 02, notes 1, 4 and 5). "Within a command the order is": 3, 2, 4, 7, 5, 17, 8, 6.
+-- Which rule a command breaks (document 01, "Read"; document 02, notes 1, 4, 5 and 6). "Within a command the order is": 3, 2, 4, 7, 5, 17, 8, 6.
 use Prim.Native.Nat.{ℕ}
 use mathlib.Core.Bool.{Bool, true, false, not}
 use mathlib.Core.List.{List, [], _∷_}
 use lib.Dec.{eqb, leb, ltb}
 use lib.ListN.{getD}
 use Rattle.command.specs.declared.Command.{Command}
-use Rattle.command.specs.declared.Command.the-variants.{Missing, Unknown, Short, Start, Caps, Loops, Mounts, Class, Put, Span, Fit, Shelf, Days, End}
+use Rattle.command.specs.declared.Command.the-variants.{Missing, Unknown, Short, Start, Caps, Loops, Mounts, Class, Put, Span, Fit, Shelf, Days, Glue, End}
 use Rattle.team.specs.Team.{capsKind, loopsKind, mountsKind, joints}
 use Rattle.days.specs.Days.{dayOf}
 use Rattle.command.specs.declared.State.{State}
@@ -57,11 +57,17 @@ shelfRules s pool instrument from to =
 abbrev pub daysRules : State → Team → (from to : ℕ) → List (Rule ℕ)
 daysRules s team from to = rule (eqb (s .n) 0) 4 ∷ rule (leb to from) 17 ∷ rule (named (team .days) 0) 6 ∷ []
 
--- "END with no team is 4"
+-- GLUE "in an open team marks one", of any kind; "glued a second time in any team, it is 6 (its PUT, SPAN or FIT is no second naming)", by the row
+-- of the glued instruments, which is one for all teams
+abbrev pub glueRules : State → (glued : Team) → (instrument : ℕ) → List (Rule ℕ)
+glueRules s glued instrument = rule (eqb (s .n) 0) 4 ∷ rule (leb (s .m) instrument) 5 ∷ rule (named (glued .named) instrument) 6 ∷ []
+
+-- "END with no team is 4"; 18 is tested after it, by `finished` of plan
 abbrev pub endRules : State → List (Rule ℕ)
 endRules s = rule (eqb (s .n) 0) 4 ∷ []
 
--- the rules for a command at an offset, given the open team, and before any team the pool's row. "No END is 2".
+-- the rules for a command at an offset, given the row that it works on: the open team's, before any team the pool's, and for GLUE that of the
+-- glued instruments. "No END is 2".
 abbrev pub rulesOf : ℕ → State → Team → Command → List (Rule ℕ)
 rulesOf at s team Missing = rule true 2 ∷ []
 rulesOf at s team Unknown = rule true 3 ∷ []
@@ -76,6 +82,7 @@ rulesOf at s team (Span instrument a b) = spanRules s team instrument a b
 rulesOf at s team (Fit instrument a b c d) = fitRules s team instrument
 rulesOf at s team (Shelf instrument a b c d) = shelfRules s team instrument (dayOf a b) (dayOf c d)
 rulesOf at s team (Days a b c d) = daysRules s team (dayOf a b) (dayOf c d)
+rulesOf at s team (Glue instrument) = glueRules s team instrument
 rulesOf at s team End = endRules s
 
 -- the number of the first rule that a command breaks, and 0 where it breaks none
@@ -98,4 +105,5 @@ isEnd (Span instrument a b) = false
 isEnd (Fit instrument a b c d) = false
 isEnd (Shelf instrument a b c d) = false
 isEnd (Days a b c d) = false
+isEnd (Glue instrument) = false
 isEnd End = true

@@ -1,7 +1,8 @@
-// Which rule a command breaks first, by the state and the open team's row. 0: none.
+// Which rule a command breaks first, by the state and the row that the command works on: the open team's, and for GLUE that of the glued
+// instruments. 0: none.
 ghost use mathlib.Core.Path.{_≡_};
 ghost use lib.ListN.{length};
-ghost use Rattle.judge.specs.Fault.{fault, startRules, teamRules, classRules, putRules, spanRules, fitRules, shelfRules, daysRules, endRules, isEnd, named};
+ghost use Rattle.judge.specs.Fault.{fault, startRules, teamRules, classRules, putRules, spanRules, fitRules, shelfRules, daysRules, glueRules, endRules, isEnd, named};
 ghost use Rattle.days.specs.Days.{dayOf};
 ghost use Rattle.row.specs.Row.{part, rowTeam};
 ghost use Rattle.command.specs.Rule.{firstBroken};
@@ -130,6 +131,21 @@ fn days_fault(row: &[u8], s: State, a: u8, b: u8, c: u8, d: u8) -> usize
     if row[row::DAYS] != 255 { 6 } else { 0 }
 }
 
+// GLUE: in a team of any kind, an instrument below m, glued once in all teams.
+fn glue_fault(row: &[u8], s: State, instrument: u8) -> usize
+    requires { ⌜ length (now row) ≡ 343 ⌝ }
+    ensures { λ r. ⌜ r ≡ firstBroken 0 (glueRules s (rowTeam (now (row .entry))) instrument) ⌝ }
+{
+    let i = instrument as usize;
+    if s.n == 0 {
+        return 4;
+    }
+    if i >= s.m {
+        return 5;
+    }
+    if named(row, i) { 6 } else { 0 } // in this team or an earlier one
+}
+
 // END: after a team.
 fn end_fault(s: State) -> usize
     ensures { λ r. ⌜ r ≡ firstBroken 0 (endRules s) ⌝ }
@@ -137,7 +153,7 @@ fn end_fault(s: State) -> usize
     if s.n == 0 { 4 } else { 0 }
 }
 
-// The number of the first rule that a command breaks, given the row of the open team.
+// The number of the first rule that a command breaks, given the row that it works on.
 pub fn fault_of(row: &[u8], at: usize, s: State, command: Command) -> usize
     requires { ⌜ length (now row) ≡ 343 ⌝ }
     ensures { λ r. ⌜ r ≡ fault at s (rowTeam (now (row .entry))) command ⌝ }
@@ -156,6 +172,7 @@ pub fn fault_of(row: &[u8], at: usize, s: State, command: Command) -> usize
         Command::Fit(i, _, _, _, _) => fit_fault(row, s, i),
         Command::Shelf(i, a, b, c, d) => shelf_fault(row, s, i, a, b, c, d),
         Command::Days(a, b, c, d) => days_fault(row, s, a, b, c, d),
+        Command::Glue(i) => glue_fault(row, s, i),
         Command::End => end_fault(s),
     }
 }
@@ -178,11 +195,12 @@ pub fn is_end(command: Command) -> bool
         Command::Fit(_, _, _, _, _) => false,
         Command::Shelf(_, _, _, _, _) => false,
         Command::Days(_, _, _, _) => false,
+        Command::Glue(_) => false,
         Command::End => true,
     }
 }
 
-// Whether a command of the open team names an instrument.
+// Whether a command names an instrument in a row.
 fn named(row: &[u8], i: usize) -> bool
     requires { ⌜ length (now row) ≡ 343 ⌝ }
     ensures { λ r. ⌜ r ≡ named (part (now (row .entry)) 18 64) i ⌝ }

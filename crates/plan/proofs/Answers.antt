@@ -1,27 +1,24 @@
 -- The operation Worth, from the answers of what it calls.
 use Prim.Native.Nat.{ℕ, _+_, _≤_}
 use mathlib.Core.Path.{_≡_, refl, sym, ap, _∙_}
-use mathlib.Core.Bool.{Bool, true, false, cond}
 use mathlib.Core.Logic.{_≢_}
 use mathlib.Core.List.{List}
 use native.Mathlib.Omega.{arith}
 use native.Mathlib.Decide.{ℕ-discrete}
-use lib.Dec.{ltb}
-use lib.ListN.{length}
 use borrow.Author.Tests.{eq-eqb, ne-eqb, le-ltb}
+use Rattle.matroid.specs.Set.{Set}
 use Rattle.matroid.specs.Matroid.{worth}
 use Rattle.sets.specs.Bits.{bit}
 use Rattle.kinds.specs.declared.Valuation.{Valuation}
 use Rattle.kinds.specs.Valuations.{matroidOf, blankValuation}
 use Rattle.kinds.proofs.Nothing.{blank-worth}
-use Rattle.team.specs.declared.Team.{Team}
 use Rattle.plan.specs.declared.Reading.{Reading}
-use Rattle.command.specs.declared.State.{State}
 use Rattle.plan.specs.declared.Answer.{Answer}
 use Rattle.plan.specs.declared.Answer.the-variants.{Refused, Worth}
-use Rattle.plan.specs.Read.{refused, accepted, readPlan}
+use Rattle.plan.specs.Read.{refused, readPlan}
 use Rattle.plan.specs.Teams.{valuationOf, teamMatroid}
 use Rattle.plan.specs.Worth.{answerOf, worthAnswer, worthNumber, worthPlace, worthValue, WorthTold}
+use Rattle.plan.proofs.Steps.{number, finished-by}
 use Rattle.plan.proofs.Bounds.{all-readings}
 
 module _ (file : List ℕ) (team set : ℕ) (r : Reading) (is : r ≡ readPlan file) where
@@ -44,17 +41,21 @@ module _ (file : List ℕ) (team set : ℕ) (r : Reading) (is : r ≡ readPlan f
 -- ---- the answer's numbers
 
 -- "to a team not in the plan every set is worth 0"
+pub absent-any : (r : Reading) (team : ℕ) (S : Set) → r .n ≤ team → worth (teamMatroid r team) S ≡ 0
+absent-any r team S l = rw (le-ltb team (r .n) l) (blank-worth (r .m) S)
+
 pub absent-worth : (r : Reading) (team set : ℕ) → r .n ≤ team → worth (teamMatroid r team) (bit set) ≡ 0
-absent-worth r team set l = rw (le-ltb team (r .n) l) (blank-worth (r .m) (bit set))
+absent-worth r team set = absent-any r team (bit set)
 
 -- an accepted reading has place 0, and a refused one no team
-rest-zero : (file : List ℕ) → (readPlan file .refusal ≡ 0 → readPlan file .place ≡ 0) × (readPlan file .refusal ≢ 0 → readPlan file .n ≡ 0)
-rest-zero file = all-readings file (λ r. (r .refusal ≡ 0 → r .place ≡ 0) × (r .refusal ≢ 0 → r .n ≡ 0)) (λ at s teams _ _ d. (λ z. absurd (d z), λ _. refl)) (λ at s teams _ _ _ _. ended at s teams (ltb (at + 1) (length file))) (λ z. absurd (omega arith), λ _. refl)
+pub rest-zero : (file : List ℕ) → (readPlan file .refusal ≡ 0 → readPlan file .place ≡ 0) × (readPlan file .refusal ≢ 0 → readPlan file .n ≡ 0)
+rest-zero file = all-readings file Rest (λ at s rows _ _ d. refuses (number file at s rows) at d) (λ at s rows _ _ _ _. finished-by Rest file at s rows (refuses 18 at (omega arith)) (refuses 9 (at + 1) (omega arith)) (λ _ _. (λ _. refl, λ d. absurd (d refl)))) (refuses 1 0 (omega arith))
   where
-    ended : (at : ℕ) (s : State) (teams : List Team) (b : Bool) → (cond b (refused 9 (at + 1)) (accepted s teams) .refusal ≡ 0 → cond b (refused 9 (at + 1)) (accepted s teams) .place ≡ 0)
-        × (cond b (refused 9 (at + 1)) (accepted s teams) .refusal ≢ 0 → cond b (refused 9 (at + 1)) (accepted s teams) .n ≡ 0)
-    ended at s teams true = (λ z. absurd (omega arith), λ _. refl)
-    ended at s teams false = (λ _. refl, λ d. absurd (d refl))
+    Rest : Reading → Type 0
+    Rest r = (r .refusal ≡ 0 → r .place ≡ 0) × (r .refusal ≢ 0 → r .n ≡ 0)
+
+    refuses : (number place : ℕ) → number ≢ 0 → Rest (refused number place)
+    refuses number place d = (λ z. absurd (d z), λ _. refl)
 
 -- Worth answers Read's number and place, and what the set is worth, for any bytes
 worth-told : (file : List ℕ) (team set : ℕ) → WorthTold file team set (worthAnswer file team set)

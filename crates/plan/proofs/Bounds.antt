@@ -8,17 +8,17 @@ use mathlib.Core.List.{List}
 use native.Mathlib.Omega.{arith}
 use native.Mathlib.Decide.{decLe, ℕ-discrete}
 use lib.Dec.{eqb, ltb}
-use lib.ListN.{length, getD, set, take, replicate, length-take}
+use lib.ListN.{length, getD, take, replicate, length-take}
 use lib.Seq.{take-all, getD-take}
-use borrow.Author.Tests.{ltb-false, eqb-false, lt-leb, le-leb, lt-ltb}
+use borrow.Author.Tests.{eqb-false, lt-leb, le-leb, lt-ltb}
 use Rattle.command.specs.declared.Command.{Command}
-use Rattle.command.specs.declared.Command.the-variants.{Missing, Unknown, Short, Start, Caps, Loops, Mounts, Class, Put, Span, Fit, Shelf, Days, End}
+use Rattle.command.specs.declared.Command.the-variants.{Missing, Unknown, Short, Start, Caps, Loops, Mounts, Class, Put, Span, Fit, Shelf, Days, Glue, End}
 use Rattle.plan.specs.declared.Reading.{Reading}
 use Rattle.command.specs.declared.State.{State}
 use Rattle.team.specs.declared.Team.{Team}
 use Rattle.command.specs.Command.{widthOf, commandBy, commandAt, bytesOf}
 use Rattle.judge.specs.Fault.{fault, isEnd}
-use Rattle.carry.specs.Carry.{start, openTeam, changedTeam, changedState}
+use Rattle.carry.specs.Carry.{start, changedState}
 use Rattle.row.specs.Days.{daysOf, shelfOf}
 use Rattle.team.specs.Team.{blankTeam}
 use Rattle.days.specs.Days.{always}
@@ -28,7 +28,7 @@ use Rattle.plan.proofs.Kept.{Kept, kept-at, kept-start, kept-next}
 use Rattle.command.proofs.Standing.{Whole}
 use Rattle.judge.proofs.Standing.{whole}
 use Rattle.plan.proofs.Each.{each-length, each-at}
-use Rattle.plan.proofs.Steps.{number, step-refused, step-end, step-next, plan-start, plan-none}
+use Rattle.plan.proofs.Steps.{workedOn, rowsAfter, number, step-refused, step-end, step-next, plan-start, plan-none, finished-by}
 
 -- What holds of every refusal and of every end holds of every reading.
 module _ (file : List ℕ) (P : Reading → Type 0)
@@ -36,16 +36,16 @@ module _ (file : List ℕ) (P : Reading → Type 0)
     (at-end : (at : ℕ) (s : State) (rows : List Team) → Kept at s rows → at + bytesOf (commandAt file at) ≤ length file → number file at s rows ≡ 0 → isEnd (commandAt file at) ≡ true → P (finished file at s rows)) where
   from : (fuel at : ℕ) (s : State) (rows : List Team) → Kept at s rows → at ≤ length file → length file < at + fuel → P (readFrom fuel file at s rows)
   from zero at s rows k inside enough = absurd (omega arith)
-  from (suc fuel) at s rows k inside enough = go (λ z. whole file at s (openTeam rows (s .n)) z) (ℕ-discrete (number file at s rows) 0) (isEnd (commandAt file at)) refl
+  from (suc fuel) at s rows k inside enough = go (λ z. whole file at s (workedOn s rows (commandAt file at)) z) (ℕ-discrete (number file at s rows) 0) (isEnd (commandAt file at)) refl
       (λ (z : number file at s rows ≡ 0) (e : isEnd (commandAt file at) ≡ false) (w : Whole file at (commandAt file at)).
       let command = commandAt file at in
       let some = w .some in
-      from fuel (at + bytesOf command) (changedState s command) (set rows (changedState s command .n) (changedTeam (openTeam rows (s .n)) command))
+      from fuel (at + bytesOf command) (changedState s command) (rowsAfter s rows command)
       (kept-next at s rows command k z e) (w .fits) (omega arith))
     where
       go : (number file at s rows ≡ 0 → Whole file at (commandAt file at)) → Dec (number file at s rows ≡ 0) → (b : Bool) → isEnd (commandAt file at) ≡ b
           → (number file at s rows ≡ 0 → isEnd (commandAt file at) ≡ false → Whole file at (commandAt file at)
-          → P (readFrom fuel file (at + bytesOf (commandAt file at)) (changedState s (commandAt file at)) (set rows (changedState s (commandAt file at) .n) (changedTeam (openTeam rows (s .n)) (commandAt file at)))))
+          → P (readFrom fuel file (at + bytesOf (commandAt file at)) (changedState s (commandAt file at)) (rowsAfter s rows (commandAt file at))))
           → P (readFrom (suc fuel) file at s rows)
       go stands (no d) b e rest = rw (step-refused fuel file at s rows d) (at-fault at s rows k inside d)
       go stands (yes z) true e rest = rw (step-end fuel file at s rows z e) (at-end at s rows k (stands z .fits) z e)
@@ -56,7 +56,7 @@ module _ (file : List ℕ) (P : Reading → Type 0)
   all-readings none = go (ℕ-discrete (getD file 0 0) 1)
     where
       go : Dec (getD file 0 0 ≡ 1) → P (readPlan file)
-      go (yes e) = rw (plan-start file e) (from (suc (length file)) 0 start (replicate 13 blankTeam) kept-start (omega arith) (omega arith))
+      go (yes e) = rw (plan-start file e) (from (suc (length file)) 0 start (replicate 14 blankTeam) kept-start (omega arith) (omega arith))
       go (no d) = rw (plan-none file d) none
 
 -- ---- the bounds
@@ -76,6 +76,7 @@ is-end (Span instrument a b) e = absurd (false≢true e)
 is-end (Fit instrument a b c d) e = absurd (false≢true e)
 is-end (Shelf instrument a b c d) e = absurd (false≢true e)
 is-end (Days a b c d) e = absurd (false≢true e)
+is-end (Glue instrument) e = absurd (false≢true e)
 is-end End e = refl
 
 -- an END that breaks no rule has a team before it
@@ -89,10 +90,10 @@ end-some at s team command e z = go (eqb (s .n) 0) refl (subst (λ (c : Command)
 
 -- what is known of a reading
 pub record Bounded (file : List ℕ) (r : Reading) : Type 0 where
-  -- every refusal's place is at most 5,080
-  pub place : r .place ≤ 5080
-  -- an accepted file has at most 5,080 bytes
-  pub short : r .refusal ≡ 0 → length file ≤ 5080
+  -- every refusal's place is at most 5,208
+  pub place : r .place ≤ 5208
+  -- an accepted file has at most 5,208 bytes
+  pub short : r .refusal ≡ 0 → length file ≤ 5208
   -- and its reading is in order
   pub valid : r .refusal ≡ 0 → Valid r
 
@@ -111,19 +112,17 @@ accepted-valid s rows k some = record {
 pub bounded : (file : List ℕ) → Bounded file (readPlan file)
 bounded file = all-readings file (Bounded file) at-fault at-end (record { place = omega arith; short = λ e. absurd (omega arith); valid = λ e. absurd (omega arith) })
   where
-    at-fault : (at : ℕ) (s : State) (rows : List Team) → Kept at s rows → at ≤ length file → number file at s rows ≢ 0 → Bounded file (refused (number file at s rows) at)
-    at-fault at s rows k inside d = record { place = let l = kept-at k in omega arith; short = λ e. absurd (d e); valid = λ e. absurd (d e) }
+    refuses : (number at : ℕ) → number ≢ 0 → at ≤ 5208 → Bounded file (refused number at)
+    refuses number at d l = record { place = l; short = λ e. absurd (d e); valid = λ e. absurd (d e) }
 
-    ended : (at : ℕ) (s : State) (rows : List Team) → Kept at s rows → 1 ≤ s .n → (b : Bool) → ltb (at + 1) (length file) ≡ b → Bounded file (cond b (refused 9 (at + 1)) (accepted s rows))
-    ended at s rows k some true t = record { place = let l = kept-at k in omega arith; short = λ e. absurd (omega arith); valid = λ e. absurd (omega arith) }
-    ended at s rows k some false t = record {
-      place = omega arith;
-      short = λ _. let l = kept-at k in let h = ltb-false (at + 1) (length file) t in omega arith;
-      valid = λ _. accepted-valid s rows k some;
-    }
+    at-fault : (at : ℕ) (s : State) (rows : List Team) → Kept at s rows → at ≤ length file → number file at s rows ≢ 0 → Bounded file (refused (number file at s rows) at)
+    at-fault at s rows k inside d = let l = kept-at k in refuses (number file at s rows) at d (omega arith)
 
     at-end : (at : ℕ) (s : State) (rows : List Team) → Kept at s rows → at + bytesOf (commandAt file at) ≤ length file → number file at s rows ≡ 0 → isEnd (commandAt file at) ≡ true → Bounded file (finished file at s rows)
-    at-end at s rows k fits z e = ended at s rows k (end-some at s (openTeam rows (s .n)) (commandAt file at) e z) (ltb (at + 1) (length file)) refl
+    at-end at s rows k fits z e =
+        let l = kept-at k in
+        finished-by (Bounded file) file at s rows (refuses 18 at (omega arith) (omega arith)) (refuses 9 (at + 1) (omega arith) (omega arith))
+        (λ _ h. record { place = omega arith; short = λ _. omega arith; valid = λ _. accepted-valid s rows k (end-some at s (workedOn s rows (commandAt file at)) (commandAt file at) e z) })
 
 -- ---- a file's first bytes decide its reading
 
@@ -141,7 +140,8 @@ width-le (suc (suc (suc (suc (suc (suc (suc (suc zero)))))))) = omega arith
 width-le (suc (suc (suc (suc (suc (suc (suc (suc (suc zero))))))))) = omega arith
 width-le (suc (suc (suc (suc (suc (suc (suc (suc (suc (suc zero)))))))))) = omega arith
 width-le (suc (suc (suc (suc (suc (suc (suc (suc (suc (suc (suc zero))))))))))) = omega arith
-width-le (suc (suc (suc (suc (suc (suc (suc (suc (suc (suc (suc (suc k)))))))))))) = omega arith
+width-le (suc (suc (suc (suc (suc (suc (suc (suc (suc (suc (suc (suc zero)))))))))))) = omega arith
+width-le (suc (suc (suc (suc (suc (suc (suc (suc (suc (suc (suc (suc (suc k))))))))))))) = omega arith
 
 -- a command whose six bytes are in a file, whatever follows them
 abbrev six : List ℕ → ℕ → Command
@@ -153,7 +153,7 @@ inside-six file at l =
     let w = width-le (getD file at 0) in
     rw (lt-leb (length file) at (omega arith), le-leb (at + widthOf (getD file at 0)) (length file) (omega arith), commandAt) refl
 
-module _ (file : List ℕ) (w : ℕ) (enough : 5085 ≤ w) (long : w ≤ length file) where
+module _ (file : List ℕ) (w : ℕ) (enough : 5213 ≤ w) (long : w ≤ length file) where
   window : List ℕ
   window = take w file
 
@@ -162,7 +162,7 @@ module _ (file : List ℕ) (w : ℕ) (enough : 5085 ≤ w) (long : w ≤ length 
   window-length = length-take w file ∙ (omega arith)
 
   -- the same command
-  same-command : (at : ℕ) → at ≤ 5079 → commandAt window at ≡ commandAt file at
+  same-command : (at : ℕ) → at ≤ 5207 → commandAt window at ≡ commandAt file at
   unfolding window
   same-command at l =
       let e = window-length in
@@ -171,13 +171,13 @@ module _ (file : List ℕ) (w : ℕ) (enough : 5085 ≤ w) (long : w ≤ length 
       (sym (inside-six file at (omega arith)))
 
   -- END is followed by more in either
-  same-end : (at : ℕ) (s : State) (rows : List Team) → at ≤ 5079 → finished window at s rows ≡ finished file at s rows
+  same-end : (at : ℕ) (s : State) (rows : List Team) → at ≤ 5207 → finished window at s rows ≡ finished file at s rows
   same-end at s rows l =
       let e = window-length in
       rw (lt-ltb (at + 1) (length window) (omega arith), lt-ltb (at + 1) (length file) (omega arith)) refl
 
-  same-number : (at : ℕ) (s : State) (rows : List Team) → at ≤ 5079 → number window at s rows ≡ number file at s rows
-  same-number at s rows l = ap (fault at s (openTeam rows (s .n))) (same-command at l)
+  same-number : (at : ℕ) (s : State) (rows : List Team) → at ≤ 5207 → number window at s rows ≡ number file at s rows
+  same-number at s rows l = ap (λ (command : Command). fault at s (workedOn s rows command) command) (same-command at l)
 
   same-from : (fuel fuel′ at : ℕ) (s : State) (rows : List Team) → Kept at s rows → at ≤ w → w < at + fuel → length file < at + fuel′
       → readFrom fuel window at s rows ≡ readFrom fuel′ file at s rows
@@ -187,16 +187,16 @@ module _ (file : List ℕ) (w : ℕ) (enough : 5085 ≤ w) (long : w ≤ length 
       go (ℕ-discrete (number file at s rows) 0) (isEnd (commandAt file at)) refl
       (λ (z : number file at s rows ≡ 0) (e : isEnd (commandAt file at) ≡ false) (some : 0 < bytesOf (commandAt file at)) (fits : at + bytesOf (commandAt file at) ≤ w).
       let command = commandAt file at in
-      same-from fuel fuel′ (at + bytesOf command) (changedState s command) (set rows (changedState s command .n) (changedTeam (openTeam rows (s .n)) command))
+      same-from fuel fuel′ (at + bytesOf command) (changedState s command) (rowsAfter s rows command)
       (kept-next at s rows command k z e) fits (omega arith) (omega arith))
     where
-      l : at ≤ 5079
+      l : at ≤ 5207
       l = kept-at k
 
       go : Dec (number file at s rows ≡ 0) → (b : Bool) → isEnd (commandAt file at) ≡ b
           → (number file at s rows ≡ 0 → isEnd (commandAt file at) ≡ false → 0 < bytesOf (commandAt file at) → at + bytesOf (commandAt file at) ≤ w
-          → readFrom fuel window (at + bytesOf (commandAt file at)) (changedState s (commandAt file at)) (set rows (changedState s (commandAt file at) .n) (changedTeam (openTeam rows (s .n)) (commandAt file at)))
-          ≡ readFrom fuel′ file (at + bytesOf (commandAt file at)) (changedState s (commandAt file at)) (set rows (changedState s (commandAt file at) .n) (changedTeam (openTeam rows (s .n)) (commandAt file at))))
+          → readFrom fuel window (at + bytesOf (commandAt file at)) (changedState s (commandAt file at)) (rowsAfter s rows (commandAt file at))
+          ≡ readFrom fuel′ file (at + bytesOf (commandAt file at)) (changedState s (commandAt file at)) (rowsAfter s rows (commandAt file at)))
           → readFrom (suc fuel) window at s rows ≡ readFrom (suc fuel′) file at s rows
       go (no d) b e rest =
           step-refused fuel window at s rows (λ z. d (sym (same-number at s rows l) ∙ z))
@@ -207,7 +207,7 @@ module _ (file : List ℕ) (w : ℕ) (enough : 5085 ≤ w) (long : w ≤ length 
           ∙ same-end at s rows l
           ∙ sym (step-end fuel′ file at s rows z e)
       go (yes z) false e rest =
-          let there = whole window at s (openTeam rows (s .n)) (same-number at s rows l ∙ z) in
+          let there = whole window at s (workedOn s rows (commandAt window at)) (same-number at s rows l ∙ z) in
           let len = window-length in
           let same = ap bytesOf (same-command at l) in
           let fits = there .fits in
@@ -228,7 +228,7 @@ module _ (file : List ℕ) (w : ℕ) (enough : 5085 ≤ w) (long : w ≤ length 
       go (yes e) =
           let len = window-length in
           plan-start window (first ∙ e)
-          ∙ same-from (suc (length window)) (suc (length file)) 0 start (replicate 13 blankTeam) kept-start (omega arith) (omega arith) (omega arith)
+          ∙ same-from (suc (length window)) (suc (length file)) 0 start (replicate 14 blankTeam) kept-start (omega arith) (omega arith) (omega arith)
           ∙ sym (plan-start file e)
       go (no d) = plan-none window (λ e. d (sym first ∙ e)) ∙ sym (plan-none file d)
 

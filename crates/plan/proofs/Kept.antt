@@ -12,7 +12,7 @@ use lib.Seq.{getD-set-same, getD-set-other, set-getD}
 use borrow.Author.Tests.{eq-eqb, ne-eqb, ltb-false, leb-false, eqb-true, eqb-false, not-false}
 use Rattle.matroid.specs.Set.{one}
 use Rattle.command.specs.declared.Command.{Command}
-use Rattle.command.specs.declared.Command.the-variants.{Missing, Unknown, Short, Start, Caps, Loops, Mounts, Class, Put, Span, Fit, Shelf, Days, End}
+use Rattle.command.specs.declared.Command.the-variants.{Missing, Unknown, Short, Start, Caps, Loops, Mounts, Class, Put, Span, Fit, Shelf, Days, Glue, End}
 use Rattle.command.specs.declared.State.{State}
 use Rattle.team.specs.declared.Team.{Team}
 use Rattle.command.specs.Command.{bytesOf}
@@ -22,6 +22,7 @@ use Rattle.carry.specs.Carry.{namedTeam, start, openTeam, changedTeam, changedS
 use Rattle.team.specs.Team.{blankTeam}
 use Rattle.days.specs.Days.{dayOf}
 use Rattle.plan.specs.Valid.{Naming, by-put, by-span, by-fit, ValidTeam}
+use Rattle.plan.proofs.Steps.{workedOn, rowsAfter}
 use Rattle.plan.proofs.Tables.{first-holds, namedCount, cappedCount, namedCount-le, namedCount-none, namedCount-more, cappedCount-le, cappedCount-none, cappedCount-more, opened-kept, class-kept, days-kept, named-kept}
 
 -- how many bytes the commands of the open team have, at most: CLASS and PUT have 3, SPAN and FIT no more than 6, and DAYS 5
@@ -45,17 +46,22 @@ pub record Pool (pool : Team) : Type 0 where
   pub kind : pool .kind ≡ 255
   pub named-long : length (pool .named) ≡ 64
 
--- what holds of the reading at an offset, by the rows that have been read: before the first team SHELFs have 6 bytes each
+-- the team that each instrument is glued to, by the row of the glued ones
+abbrev glueIn : List Team → List ℕ
+glueIn rows = getD rows 13 blankTeam .named
+
+-- what holds of the reading at an offset, by the rows that have been read: before the first team SHELFs have 6 bytes each, and GLUEs 2 after it
 pub record Kept (at : ℕ) (s : State) (rows : List Team) : Type 0 where
-  pub rows-long : length rows ≡ 13
+  pub rows-long : length rows ≡ 14
   pub capped-long : length (s .capped) ≡ 16
   pub few : s .n ≤ 12
   pub small : s .m ≤ 64
   pub pool : Pool (getD rows 0 blankTeam)
+  pub glue-long : length (glueIn rows) ≡ 64
   pub kept : (t : ℕ) → t < s .n → ValidTeam (s .m) (getD rows (t + 1) blankTeam)
   pub started : 0 < s .n → 0 < at
   pub none : s .n ≡ 0 → at ≤ 3 + 6 * namedCount (getD rows 0 blankTeam .named)
-  pub some : 0 < s .n → at ≤ 387 + 391 * (s .n - 1) + used s (getD rows (s .n) blankTeam)
+  pub some : 0 < s .n → at ≤ 387 + 391 * (s .n - 1) + used s (getD rows (s .n) blankTeam) + 2 * namedCount (glueIn rows)
 
 -- what a CAPS team takes, and a team of another kind
 used-caps : (s : State) (team : Team) → team .kind ≡ capsKind → used s team ≡ 5 * one (named (team .days) 0) + (2 + 3 * cappedCount (s .capped) + 3 * namedCount (team .named))
@@ -76,30 +82,32 @@ used-opened s kind channels cap e = go (eqb kind capsKind)
     go false = let n = namedCount-none in omega arith
 
 -- DAYS takes 5 bytes more
-used-dated : (s : State) (team : Team) (a b c d : ℕ) → named (team .days) 0 ≡ false → used s team + 5 ≡ used s (changedTeam team (Days a b c d))
+used-dated : (s : State) (team : Team) (a b c d : ℕ) → named (team .days) 0 ≡ false → used s team + 5 ≡ used s (changedTeam 0 team (Days a b c d))
 unfolding used changedTeam
 used-dated s team a b c d e = rw e (omega arith)
 
--- so a command stands at 5,079 at most
-pub kept-at : {at : ℕ} {s : State} {rows : List Team} → Kept at s rows → at ≤ 5079
+-- so a command stands at 5,207 at most
+pub kept-at : {at : ℕ} {s : State} {rows : List Team} → Kept at s rows → at ≤ 5207
 kept-at {at} {s} {rows} k = go (decLt 0 (s .n))
   where
-    go : Dec (0 < s .n) → at ≤ 5079
+    go : Dec (0 < s .n) → at ≤ 5207
     go (yes l) =
         let most = k .some l in
         let u = used-le s (getD rows (s .n) blankTeam) in
+        let g = namedCount-le (glueIn rows) in
         let f = k .few in
         omega arith
     go (no d) = let most = k .none (omega arith) in let n = namedCount-le (getD rows 0 blankTeam .named) in omega arith
 
 -- at the start
-pub kept-start : Kept 0 start (replicate 13 blankTeam)
+pub kept-start : Kept 0 start (replicate 14 blankTeam)
 kept-start = record {
   rows-long = refl;
   capped-long = refl;
   few = omega arith;
   small = omega arith;
   pool = record { kind = refl; named-long = refl };
+  glue-long = refl;
   kept = λ t l. absurd (omega arith);
   started = λ l. absurd (omega arith);
   none = λ e. omega arith;
@@ -108,21 +116,23 @@ kept-start = record {
 
 -- a team is stored in the last row
 kept-store : (at at′ : ℕ) (s s′ : State) (rows : List Team) (team : Team) → Kept at s rows → s′ .m ≡ s .m → 0 < s′ .n → s′ .n ≤ s .n + 1 → s′ .n ≤ 12 → length (s′ .capped) ≡ 16
-    → ValidTeam (s .m) team → 0 < at′ → at′ ≤ 387 + 391 * (s′ .n - 1) + used s′ team → Kept at′ s′ (set rows (s′ .n) team)
+    → ValidTeam (s .m) team → 0 < at′ → at′ ≤ 387 + 391 * (s′ .n - 1) + used s′ team + 2 * namedCount (glueIn rows) → Kept at′ s′ (set rows (s′ .n) team)
 kept-store at at′ s s′ rows team k em some next few long kept started bytes =
     let wide = k .rows-long in
     let small = k .small in
     let here = getD-set-same rows (s′ .n) team blankTeam (omega arith) in
+    let glue = getD-set-other rows (s′ .n) 13 team blankTeam (omega arith) in
     record {
       rows-long = length-set rows (s′ .n) team ∙ k .rows-long;
       capped-long = long;
       few = few;
       small = omega arith;
       pool = rw (getD-set-other rows (s′ .n) 0 team blankTeam (omega arith)) (k .pool);
+      glue-long = ap (λ (t : Team). length (t .named)) glue ∙ k .glue-long;
       kept = λ t l. rw em (go t l here (ℕ-discrete (t + 1) (s′ .n)));
       started = λ _. started;
       none = λ e. absurd (omega arith);
-      some = λ _. rw here bytes;
+      some = λ _. let u = ap (used s′) here in let g = ap (λ (t : Team). namedCount (t .named)) glue in omega arith;
     }
   where
     go : (t : ℕ) → t < s′ .n → getD (set rows (s′ .n) team) (s′ .n) blankTeam ≡ team → Dec (t + 1 ≡ s′ .n) → ValidTeam (s .m) (getD (set rows (s′ .n) team) (t + 1) blankTeam)
@@ -158,6 +168,7 @@ module _ (at : ℕ) (s : State) (rows : List Team) (k : Kept at s rows) where
         few = k .few;
         small = top;
         pool = k .pool;
+        glue-long = k .glue-long;
         kept = λ t l. absurd (omega arith);
         started = λ l. omega arith;
         none = λ _. omega arith;
@@ -198,6 +209,7 @@ module _ (at : ℕ) (s : State) (rows : List Team) (k : Kept at s rows) where
             few = k .few;
             small = k .small;
             pool = rw here (record { kind = k .pool .kind; named-long = long });
+            glue-long = ap (λ (t : Team). length (t .named)) (getD-set-other rows 0 13 pool′ blankTeam (omega arith)) ∙ k .glue-long;
             kept = λ t l. absurd (omega arith);
             started = λ l. absurd (omega arith);
             none = λ _. rw here most;
@@ -205,10 +217,10 @@ module _ (at : ℕ) (s : State) (rows : List Team) (k : Kept at s rows) where
           })
 
   -- all that stands before a new team
-  before : at ≤ 387 + 391 * s .n
+  before : at ≤ 387 + 391 * s .n + 2 * namedCount (glueIn rows)
   before = go (decLt 0 (s .n))
     where
-      go : Dec (0 < s .n) → at ≤ 387 + 391 * s .n
+      go : Dec (0 < s .n) → at ≤ 387 + 391 * s .n + 2 * namedCount (glueIn rows)
       go (yes l) = let most = k .some l in let u = used-le s (getD rows (s .n) blankTeam) in omega arith
       go (no d) = let most = k .none (omega arith) in let n = namedCount-le (getD rows 0 blankTeam .named) in omega arith
 
@@ -242,7 +254,7 @@ module _ (at : ℕ) (s : State) (rows : List Team) (k : Kept at s rows) where
 
   -- CLASS caps a class that was not
   class-kept-here : (class most : ℕ) → fault at s (openTeam rows (s .n)) (Class class most) ≡ 0
-      → Kept (at + 3) (changedState s (Class class most)) (set rows (s .n) (changedTeam (openTeam rows (s .n)) (Class class most)))
+      → Kept (at + 3) (changedState s (Class class most)) (set rows (s .n) (changedTeam (s .n) (openTeam rows (s .n)) (Class class most)))
   unfolding fault changedState changedTeam
   class-kept-here class most e =
       let team = openTeam rows (s .n) in
@@ -252,7 +264,7 @@ module _ (at : ℕ) (s : State) (rows : List Team) (k : Kept at s rows) where
       let caps = of-kind p in
       let more = cappedCount-more (s .capped) class (k .capped-long) (leb-false 16 class q) r in
       let s′ = changedState s (Class class most) in
-      let team′ = changedTeam team (Class class most) in
+      let team′ = changedTeam (s .n) team (Class class most) in
       open-kept s′ team′ 3 (open-some (omega arith)) refl refl (length-set (s .capped) class true ∙ k .capped-long)
       (λ kept. class-kept (s .m) team kept class most)
       (λ kept. let u = used-caps s team caps in let u′ = used-caps s′ team′ caps in omega arith)
@@ -277,7 +289,7 @@ module _ (at : ℕ) (s : State) (rows : List Team) (k : Kept at s rows) where
       grows (inr (other, l)) more = let u = used-other s team other in let u′ = used-other s team′ other in omega arith
 
   -- PUT puts an instrument in a class that was in none
-  put-kept-here : (i class : ℕ) → fault at s (openTeam rows (s .n)) (Put i class) ≡ 0 → Kept (at + 3) s (set rows (s .n) (changedTeam (openTeam rows (s .n)) (Put i class)))
+  put-kept-here : (i class : ℕ) → fault at s (openTeam rows (s .n)) (Put i class) ≡ 0 → Kept (at + 3) s (set rows (s .n) (changedTeam (s .n) (openTeam rows (s .n)) (Put i class)))
   unfolding fault changedTeam
   put-kept-here i class e =
       let team = openTeam rows (s .n) in
@@ -290,7 +302,7 @@ module _ (at : ℕ) (s : State) (rows : List Team) (k : Kept at s rows) where
       naming-kept i 5 class 255 255 255 3 (by-put class caps below (leb-false 16 class r)) (omega arith) below (omega arith) (inl (caps, omega arith)) t
 
   -- SPAN gives an instrument a span that had none
-  span-kept-here : (i a b : ℕ) → fault at s (openTeam rows (s .n)) (Span i a b) ≡ 0 → Kept (at + 4) s (set rows (s .n) (changedTeam (openTeam rows (s .n)) (Span i a b)))
+  span-kept-here : (i a b : ℕ) → fault at s (openTeam rows (s .n)) (Span i a b) ≡ 0 → Kept (at + 4) s (set rows (s .n) (changedTeam (s .n) (openTeam rows (s .n)) (Span i a b)))
   unfolding fault changedTeam
   span-kept-here i a b e =
       let team = openTeam rows (s .n) in
@@ -305,7 +317,7 @@ module _ (at : ℕ) (s : State) (rows : List Team) (k : Kept at s rows) where
       naming-kept i 6 a b 255 255 4 (by-span a b loops below (leb-false joints a ra) (leb-false joints b rb) (eqb-false a b d)) (omega arith) below (omega arith) (inr (omega arith, omega arith)) t
 
   -- FIT fits an instrument for mounts that had none
-  fit-kept-here : (i a b c d : ℕ) → fault at s (openTeam rows (s .n)) (Fit i a b c d) ≡ 0 → Kept (at + 6) s (set rows (s .n) (changedTeam (openTeam rows (s .n)) (Fit i a b c d)))
+  fit-kept-here : (i a b c d : ℕ) → fault at s (openTeam rows (s .n)) (Fit i a b c d) ≡ 0 → Kept (at + 6) s (set rows (s .n) (changedTeam (s .n) (openTeam rows (s .n)) (Fit i a b c d)))
   unfolding fault changedTeam
   fit-kept-here i a b c d e =
       let team = openTeam rows (s .n) in
@@ -317,19 +329,53 @@ module _ (at : ℕ) (s : State) (rows : List Team) (k : Kept at s rows) where
       naming-kept i 9 a b c d 6 (by-fit a b c d mounts below) (omega arith) below (omega arith) (inr (omega arith, omega arith)) t
 
   -- DAYS says the days of a team that had none
-  days-kept-here : (a b c d : ℕ) → fault at s (openTeam rows (s .n)) (Days a b c d) ≡ 0 → Kept (at + 5) s (set rows (s .n) (changedTeam (openTeam rows (s .n)) (Days a b c d)))
-  unfolding fault
+  days-kept-here : (a b c d : ℕ) → fault at s (openTeam rows (s .n)) (Days a b c d) ≡ 0 → Kept (at + 5) s (set rows (s .n) (changedTeam (s .n) (openTeam rows (s .n)) (Days a b c d)))
+  unfolding fault changedTeam
   days-kept-here a b c d e =
       let team = openTeam rows (s .n) in
       let (p, e₁) = first-holds (eqb (s .n) 0) 4 _ (omega arith) e in
       let (_, e₂) = first-holds (leb (dayOf c d) (dayOf a b)) 17 _ (omega arith) e₁ in
       let (t, _) = first-holds (named (team .days) 0) 6 _ (omega arith) e₂ in
       let some = eqb-false (s .n) 0 p in
-      open-kept s (changedTeam team (Days a b c d)) 5 (omega arith) refl refl (k .capped-long) (λ kept. days-kept (s .m) team kept a b c d) (λ kept. let u = used-dated s team a b c d t in omega arith)
+      open-kept s (changedTeam (s .n) team (Days a b c d)) 5 (omega arith) refl refl (k .capped-long) (λ kept. days-kept (s .m) team kept a b c d) (λ kept. let u = used-dated s team a b c d t in omega arith)
+
+  -- GLUE names an instrument in the row of the glued ones that none did
+  glue-kept-here : (i : ℕ) → fault at s (openTeam rows 13) (Glue i) ≡ 0 → Kept (at + 2) s (set rows 13 (namedTeam (openTeam rows 13) i (s .n) 255 255 255 255))
+  unfolding fault
+  glue-kept-here i e =
+      let (p, e₁) = first-holds (eqb (s .n) 0) 4 _ (omega arith) e in
+      let (q, e₂) = first-holds (leb (s .m) i) 5 _ (omega arith) e₁ in
+      let (t, _) = first-holds (named (glueIn rows) i) 6 _ (omega arith) e₂ in
+      let some = eqb-false (s .n) 0 p in
+      let below = leb-false (s .m) i q in
+      let small = k .small in
+      stored (omega arith) (omega arith) t
+    where
+      stored : 0 < s .n → i < 64 → named (glueIn rows) i ≡ false → Kept (at + 2) s (set rows 13 (namedTeam (openTeam rows 13) i (s .n) 255 255 255 255))
+      stored some low fresh =
+          let wide = k .rows-long in
+          let few = k .few in
+          let glue′ = namedTeam (openTeam rows 13) i (s .n) 255 255 255 255 in
+          let here = getD-set-same rows 13 glue′ blankTeam (omega arith) in
+          let more = namedCount-more (glueIn rows) i (s .n) (k .glue-long) low (omega arith) fresh in
+          let bytes = k .some some in
+          let most : at + 2 ≤ 387 + 391 * (s .n - 1) + used s (getD rows (s .n) blankTeam) + 2 * namedCount (glue′ .named) = omega arith in
+          record {
+            rows-long = length-set rows 13 glue′ ∙ k .rows-long;
+            capped-long = k .capped-long;
+            few = few;
+            small = k .small;
+            pool = rw (getD-set-other rows 13 0 glue′ blankTeam (omega arith)) (k .pool);
+            glue-long = ap (λ (t : Team). length (t .named)) here ∙ length-set (glueIn rows) i (s .n) ∙ k .glue-long;
+            kept = λ t l. rw (getD-set-other rows 13 (t + 1) glue′ blankTeam (omega arith)) (k .kept t l);
+            started = λ _. omega arith;
+            none = λ e. absurd (omega arith);
+            some = λ _. let u = ap (used s) (getD-set-other rows 13 (s .n) glue′ blankTeam (omega arith)) in let g = ap (λ (t : Team). namedCount (t .named)) here in omega arith;
+          }
 
 -- what holds at a command that breaks no rule and is not END holds at the next
-pub kept-next : (at : ℕ) (s : State) (rows : List Team) (command : Command) → Kept at s rows → fault at s (openTeam rows (s .n)) command ≡ 0 → isEnd command ≡ false
-    → Kept (at + bytesOf command) (changedState s command) (set rows (changedState s command .n) (changedTeam (openTeam rows (s .n)) command))
+pub kept-next : (at : ℕ) (s : State) (rows : List Team) (command : Command) → Kept at s rows → fault at s (workedOn s rows command) command ≡ 0 → isEnd command ≡ false
+    → Kept (at + bytesOf command) (changedState s command) (rowsAfter s rows command)
 unfolding fault changedState changedTeam
 kept-next at s rows Missing k e f = absurd (omega arith)
 kept-next at s rows Unknown k e f = absurd (omega arith)
@@ -344,4 +390,5 @@ kept-next at s rows (Span i a b) k e f = span-kept-here at s rows k i a b e
 kept-next at s rows (Fit i a b c d) k e f = fit-kept-here at s rows k i a b c d e
 kept-next at s rows (Shelf i a b c d) k e f = shelf-kept-here at s rows k i a b c d e
 kept-next at s rows (Days a b c d) k e f = days-kept-here at s rows k a b c d e
+kept-next at s rows (Glue i) k e f = glue-kept-here at s rows k i e
 kept-next at s rows End k e f = absurd (true≢false f)

@@ -6,8 +6,11 @@ pub mod Again
 pub mod Run
 pub mod Kept
 pub mod Steps
+pub mod Gluing
+pub mod Standing
 pub mod Bounds
 pub mod Valuing
+pub mod Glued
 pub mod Present
 pub mod Answers
 pub mod Numbers

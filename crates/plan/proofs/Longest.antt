@@ -1,26 +1,37 @@
--- The longest accepted plan: the bound of 5,080 bytes is met.
-use Prim.Native.Nat.{ℕ, zero, suc, _+_, _-_, _≤_, _<_}
-use mathlib.Core.Path.{_≡_, refl, sym, ap, _∙_}
-use mathlib.Core.Bool.{false, not}
-use mathlib.Core.Logic.{_≢_}
-use mathlib.Core.List.{List, [], _∷_}
+-- The longest accepted plan: the bound of 5,208 bytes is met.
+use Prim.Native.Nat.{ℕ, zero, suc, _+_, _-_, _*_, _≤_, _<_}
+use mathlib.Core.Path.{_≡_, refl, sym, ap, _∙_, subst⁻¹}
+use mathlib.Core.Bool.{true, false, not, cond}
+use mathlib.Core.Logic.{_⊎_, inl, inr, ⊎-elim, _≢_}
+use mathlib.Core.List.{List, [], _∷_, _++_}
 use native.Mathlib.Omega.{arith}
-use lib.Dec.{eqb}
-use lib.ListN.{length, getD, drop, set, replicate, length-set, length-drop}
-use lib.Seq.{getD-set-same, getD-drop, drop-drop, getD-set-other}
-use borrow.Author.Tests.{le-ltb, lt-leb, le-leb, eq-eqb, ne-eqb}
+use native.Mathlib.Decide.{decLt}
+use lib.Dec.{T, eqb, ltb}
+use lib.ListN.{length, getD, drop, set, replicate, length-set, length-drop, getD-replicate, List·getD-append}
+use lib.Seq.{getD-set-same, getD-drop, drop-drop, getD-set-other, set-set, getD-append-add}
+use borrow.Author.Tests.{le-ltb, lt-ltb, lt-leb, le-leb, ne-eqb, eqb-true}
+use Rattle.matroid.specs.Taut.{T→true}
+use Rattle.matroid.proofs.Sets.{size-le}
+use Rattle.sets.specs.Bits.{bit, word}
+use Rattle.sets.proofs.Gathering.{bit-word}
+use Rattle.kinds.proofs.Full.{Fitted, full-indep}
+use Rattle.days.specs.Days.{always}
+use Rattle.row.specs.Days.{daysOf, shelfOf}
 use Rattle.command.specs.declared.Command.{Command}
-use Rattle.command.specs.declared.Command.the-variants.{Start, Mounts, Fit, Shelf, Days}
+use Rattle.command.specs.declared.Command.the-variants.{Start, Mounts, Fit, Shelf, Days, Glue}
 use Rattle.plan.specs.declared.Reading.{Reading}
 use Rattle.command.specs.declared.State.{State}
 use Rattle.team.specs.declared.Team.{Team}
-use Rattle.team.specs.Team.{mountsKind, blankTeam}
+use Rattle.team.specs.Team.{mountsKind, openedTeam, blankTeam}
 use Rattle.command.specs.Command.{widthOf, commandOf, commandAt, bytesOf}
 use Rattle.judge.specs.Fault.{named, fault, isEnd}
-use Rattle.carry.specs.Carry.{start, openTeam, changedTeam, changedState}
-use Rattle.plan.specs.Read.{readFrom, readPlan}
+use Rattle.carry.specs.Carry.{namedTeam, start, openTeam, changedTeam, changedState}
+use Rattle.plan.specs.Read.{accepted, readFrom, readPlan}
+use Rattle.plan.specs.Teams.{usable, gluedTo, teamBefore, allStand}
+use Rattle.plan.proofs.Each.{each-at}
+use Rattle.plan.proofs.Gluing.{Stands, indep-yes, all-stand}
 use Rattle.plan.proofs.Tables.{named-none}
-use Rattle.plan.proofs.Steps.{step-end, step-next, plan-start}
+use Rattle.plan.proofs.Steps.{workedOn, rowsAfter, step-end, step-next, plan-start}
 
 -- SHELFs of the instruments below k for all days, and then the rest of a plan
 abbrev shelves : ℕ → List ℕ → List ℕ
@@ -36,16 +47,26 @@ fits (suc k) rest = 9 ∷ k ∷ 255 ∷ 255 ∷ 255 ∷ 255 ∷ fits k rest
 abbrev dated : List ℕ → List ℕ
 dated rest = 11 ∷ 0 ∷ 0 ∷ 255 ∷ 255 ∷ rest
 
--- so many MOUNTS teams with a FIT for each of 64 instruments and DAYS, and then the rest of a plan
-abbrev mounts : ℕ → List ℕ → List ℕ
-mounts zero rest = rest
-mounts (suc n) rest = 8 ∷ 64 ∷ fits 64 (dated (mounts n rest))
+-- GLUEs of k instruments from b on, and then the rest of a plan
+abbrev glues : (b k : ℕ) → List ℕ → List ℕ
+glues b zero rest = rest
+glues b (suc k) rest = 12 ∷ (b + k) ∷ glues b k rest
 
--- 64 instruments that have a SHELF each, and twelve MOUNTS teams with DAYS in which each has a FIT
+-- a MOUNTS team with a FIT for each of 64 instruments and DAYS, and then the rest of a plan
+abbrev mounts : List ℕ → List ℕ
+mounts rest = 8 ∷ 64 ∷ fits 64 (dated rest)
+
+-- so many of them
+abbrev manyMounts : ℕ → List ℕ → List ℕ
+manyMounts zero rest = rest
+manyMounts (suc k) rest = mounts (manyMounts k rest)
+
+-- 64 instruments that have a SHELF each, and twelve MOUNTS teams with DAYS in which each has a FIT; half of them are glued to the first team, and the
+-- other half to the second
 pub longest : List ℕ
-longest = 1 ∷ 1 ∷ 64 ∷ shelves 64 (mounts 12 (7 ∷ []))
+longest = 1 ∷ 1 ∷ 64 ∷ shelves 64 (mounts (glues 0 32 (mounts (glues 32 32 (manyMounts 10 (7 ∷ []))))))
 
-pub longest-length : length longest ≡ 5080
+pub longest-length : length longest ≡ 5208
 unfolding longest
 longest-length = refl
 
@@ -72,8 +93,8 @@ abbrev Accepts : ℕ → List ℕ → ℕ → State → List Team → Type 0
 Accepts fuel file at s rows = readFrom fuel file at s rows .refusal ≡ 0
 
 -- a command that breaks no rule and is not END is passed
-passes : (fuel : ℕ) (file : List ℕ) (at : ℕ) (s : State) (rows : List Team) (command : Command) → commandAt file at ≡ command → fault at s (openTeam rows (s .n)) command ≡ 0 → isEnd command ≡ false
-    → Accepts fuel file (at + bytesOf command) (changedState s command) (set rows (changedState s command .n) (changedTeam (openTeam rows (s .n)) command)) → Accepts (suc fuel) file at s rows
+passes : (fuel : ℕ) (file : List ℕ) (at : ℕ) (s : State) (rows : List Team) (command : Command) → commandAt file at ≡ command → fault at s (workedOn s rows command) command ≡ 0 → isEnd command ≡ false
+    → Accepts fuel file (at + bytesOf command) (changedState s command) (rowsAfter s rows command) → Accepts (suc fuel) file at s rows
 passes fuel file at s rows command is z e rest =
     ap (λ (r : Reading). r .refusal) (step-next fuel file at s rows (rw is z) (rw is e)) ∙ rw is rest
 
@@ -81,152 +102,240 @@ passes fuel file at s rows command is z e rest =
 left-next : (file : List ℕ) (at k : ℕ) {left : List ℕ} → drop at file ≡ left → drop (at + k) file ≡ drop k left
 left-next file at k is = sym (drop-drop k at file) ∙ ap (drop k) is
 
--- the row that is stored is the open one
-module _ (rows : List Team) (n : ℕ) (team : Team) (long : length rows ≡ 13) (few : n ≤ 12) where
-  stored-long : length (set rows n team) ≡ 13
-  stored-long = length-set rows n team ∙ long
-
-  stored-open : openTeam (set rows n team) n ≡ team
-  stored-open = getD-set-same rows n team blankTeam (omega arith)
-
--- an instrument that is named leaves the others as they were
-named-other : (table : List ℕ) (k v i : ℕ) → i ≢ k → named table i ≡ false → named (set table k v) i ≡ false
-named-other table k v i d e = ap (λ (x : ℕ). not (eqb x 255)) (getD-set-other table k i v 255 d) ∙ e
-
--- ---- the shelves
-
 -- k commands and then so many
 abbrev more : ℕ → ℕ → ℕ
 more zero fuel = fuel
 more (suc k) fuel = suc (more k fuel)
 
--- 64 instruments and no team yet, where no instrument below k has a SHELF
-record Shelving (k : ℕ) (s : State) (rows : List Team) : Type 0 where
-  m : s .m ≡ 64
-  none : s .n ≡ 0
-  long : length rows ≡ 13
-  unnamed : (i : ℕ) → i < k → named (openTeam rows (s .n) .named) i ≡ false
+-- the state after START and n teams, none of which caps a class
+abbrev opened : ℕ → State
+opened n = record { m = 64; n = n; capped = replicate 16 false }
+
+-- a row in which no instrument below k is named
+abbrev Unnamed : ℕ → Team → Type 0
+Unnamed k row = (i : ℕ) → i < k → named (row .named) i ≡ false
+
+-- an instrument that is named leaves the others as they were
+named-other : (row : Team) (k command a b c d i : ℕ) → i ≢ k → named (row .named) i ≡ false → named (namedTeam row k command a b c d .named) i ≡ false
+named-other row k command a b c d i o e = ap (λ (x : ℕ). not (eqb x 255)) (getD-set-other (row .named) k i command 255 o) ∙ e
+
+-- ---- commands that name the instruments of a row
+
+-- a row after SHELFs, FITs and GLUEs
+abbrev shelved : ℕ → Team → Team
+shelved zero row = row
+shelved (suc k) row = shelved k (namedTeam row k 10 0 0 255 255)
+
+abbrev fitted : ℕ → Team → Team
+fitted zero row = row
+fitted (suc k) row = fitted k (namedTeam row k 9 255 255 255 255)
+
+abbrev stuck : (n b k : ℕ) → Team → Team
+stuck n b zero row = row
+stuck n b (suc k) row = stuck n b k (namedTeam row (b + k) n 255 255 255 255)
+
+-- the row that is stored is the one that is read
+stored : (rows : List Team) (n : ℕ) (row : Team) → length rows ≡ 14 → n ≤ 13 → openTeam (set rows n row) n ≡ row
+stored rows n row long few = getD-set-same rows n row blankTeam (omega arith)
 
 -- the SHELFs are read, and then the rest
-shelves-read : (file rest : List ℕ) (fuel : ℕ) (s : State) → ((at : ℕ) (rows : List Team) → length rows ≡ 13 → drop at file ≡ rest → Accepts fuel file at s rows)
-    → (k at : ℕ) (rows : List Team) → k ≤ 64 → Shelving k s rows → drop at file ≡ shelves k rest → Accepts (more k fuel) file at s rows
+shelves-read : (file rest : List ℕ) (fuel : ℕ) (rows : List Team) (row : Team) → length rows ≡ 14 → (k at : ℕ) → k ≤ 64 → Unnamed k row
+    → ((at : ℕ) → drop at file ≡ rest → Accepts fuel file at (opened 0) (set rows 0 (shelved k row))) → drop at file ≡ shelves k rest → Accepts (more k fuel) file at (opened 0) (set rows 0 row)
 unfolding fault changedState changedTeam
-shelves-read file rest fuel s after zero at rows l o is = after at rows (o .long) is
-shelves-read file rest fuel s after (suc k) at rows l o is =
-    let pool = openTeam rows (s .n) in
-    let pool′ = changedTeam pool (Shelf k 0 0 255 255) in
-    let none = o .none in
-    let here = stored-open rows (s .n) pool′ (o .long) (omega arith) in
-    passes (more k fuel) file at s rows (Shelf k 0 0 255 255)
+shelves-read file rest fuel rows row long zero at l h after is = after at is
+shelves-read file rest fuel rows row long (suc k) at l h after is =
+    let row′ = namedTeam row k 10 0 0 255 255 in
+    let here = stored rows 0 row long (omega arith) in
+    passes (more k fuel) file at (opened 0) (set rows 0 row) (Shelf k 0 0 255 255)
     (command-left file at (shelves (suc k) rest) is 10 6 refl refl (omega arith) (omega arith))
-    (rw (eq-eqb (s .n) 0 none, o .m, lt-leb 64 k (omega arith), o .unnamed k (omega arith)) refl)
+    (rw (here, lt-leb 64 k (omega arith), h k (omega arith)) refl)
     refl
-    (shelves-read file rest fuel s after k (at + 6) (set rows (s .n) pool′) (omega arith)
-    (record {
-      m = o .m;
-      none = none;
-      long = stored-long rows (s .n) pool′ (o .long) (omega arith);
-      unnamed = λ i b. rw here (named-other (pool .named) k 10 i (omega arith) (o .unnamed i (omega arith)));
-    })
-    (left-next file at 6 is))
-
--- ---- the teams
-
--- an open team that has no DAYS, in which no instrument below k has a FIT
-record Open (k : ℕ) (s : State) (rows : List Team) : Type 0 where
-  m : s .m ≡ 64
-  some : 0 < s .n
-  few : s .n ≤ 12
-  long : length rows ≡ 13
-  kind : openTeam rows (s .n) .kind ≡ mountsKind
-  undated : named (openTeam rows (s .n) .days) 0 ≡ false
-  unnamed : (i : ℕ) → i < k → named (openTeam rows (s .n) .named) i ≡ false
+    (rw (here, set-set rows 0 row row′) (shelves-read file rest fuel rows row′ long k (at + 6) (omega arith) (λ i b. named-other row k 10 0 0 255 255 i (omega arith) (h i (omega arith))) after (left-next file at 6 is)))
 
 -- the FITs of a team are read, and then the rest
-fits-read : (file rest : List ℕ) (fuel : ℕ) (s : State) → ((at : ℕ) (rows : List Team) → Open 0 s rows → drop at file ≡ rest → Accepts fuel file at s rows)
-    → (k at : ℕ) (rows : List Team) → k ≤ 64 → Open k s rows → drop at file ≡ fits k rest → Accepts (more k fuel) file at s rows
+fits-read : (file rest : List ℕ) (fuel n : ℕ) (rows : List Team) (row : Team) → length rows ≡ 14 → n ≤ 12 → row .kind ≡ mountsKind → (k at : ℕ) → k ≤ 64 → Unnamed k row
+    → ((at : ℕ) → drop at file ≡ rest → Accepts fuel file at (opened n) (set rows n (fitted k row))) → drop at file ≡ fits k rest → Accepts (more k fuel) file at (opened n) (set rows n row)
 unfolding fault changedState changedTeam
-fits-read file rest fuel s after zero at rows l o is = after at rows o is
-fits-read file rest fuel s after (suc k) at rows l o is =
-    let team = openTeam rows (s .n) in
-    let team′ = changedTeam team (Fit k 255 255 255 255) in
-    let here = stored-open rows (s .n) team′ (o .long) (o .few) in
-    passes (more k fuel) file at s rows (Fit k 255 255 255 255)
+fits-read file rest fuel n rows row long few kind zero at l h after is = after at is
+fits-read file rest fuel n rows row long few kind (suc k) at l h after is =
+    let row′ = namedTeam row k 9 255 255 255 255 in
+    let here = stored rows n row long (omega arith) in
+    passes (more k fuel) file at (opened n) (set rows n row) (Fit k 255 255 255 255)
     (command-left file at (fits (suc k) rest) is 9 6 refl refl (omega arith) (omega arith))
-    (rw (o .kind, o .m, lt-leb 64 k (omega arith), o .unnamed k (omega arith)) refl)
+    (rw (here, kind, lt-leb 64 k (omega arith), h k (omega arith)) refl)
     refl
-    (fits-read file rest fuel s after k (at + 6) (set rows (s .n) team′) (omega arith)
-    (record {
-      m = o .m;
-      some = o .some;
-      few = o .few;
-      long = stored-long rows (s .n) team′ (o .long) (o .few);
-      kind = rw here (o .kind);
-      undated = rw here (o .undated);
-      unnamed = λ i b. rw here (named-other (team .named) k 9 i (omega arith) (o .unnamed i (omega arith)));
-    })
-    (left-next file at 6 is))
+    (rw (here, set-set rows n row row′) (fits-read file rest fuel n rows row′ long few kind k (at + 6) (omega arith) (λ i b. named-other row k 9 255 255 255 255 i (omega arith) (h i (omega arith))) after (left-next file at 6 is)))
 
--- DAYS is read, and then the rest
-days-read : (file rest : List ℕ) (fuel : ℕ) (s : State) → ((at : ℕ) (rows : List Team) → length rows ≡ 13 → drop at file ≡ rest → Accepts fuel file at s rows)
-    → (at : ℕ) (rows : List Team) → Open 0 s rows → drop at file ≡ dated rest → Accepts (suc fuel) file at s rows
+-- the GLUEs of a team are read, and then the rest
+glues-read : (file rest : List ℕ) (fuel n : ℕ) (rows : List Team) (row : Team) (b : ℕ) → length rows ≡ 14 → 0 < n → (k at : ℕ) → b + k ≤ 64 → ((i : ℕ) → b ≤ i → i < b + k → named (row .named) i ≡ false)
+    → ((at : ℕ) → drop at file ≡ rest → Accepts fuel file at (opened n) (set rows 13 (stuck n b k row))) → drop at file ≡ glues b k rest → Accepts (more k fuel) file at (opened n) (set rows 13 row)
 unfolding fault changedState changedTeam
-days-read file rest fuel s after at rows o is =
-    let team′ = changedTeam (openTeam rows (s .n)) (Days 0 0 255 255) in
-    let some = o .some in
-    passes fuel file at s rows (Days 0 0 255 255)
-    (command-left file at (dated rest) is 11 5 refl refl (omega arith) (omega arith))
-    (rw (ne-eqb (s .n) 0 (omega arith), o .undated) refl)
+glues-read file rest fuel n rows row b long some zero at l h after is = after at is
+glues-read file rest fuel n rows row b long some (suc k) at l h after is =
+    let row′ = namedTeam row (b + k) n 255 255 255 255 in
+    let here = stored rows 13 row long (omega arith) in
+    passes (more k fuel) file at (opened n) (set rows 13 row) (Glue (b + k))
+    (command-left file at (glues b (suc k) rest) is 12 2 refl refl (omega arith) (omega arith))
+    (rw (here, ne-eqb n 0 (omega arith), lt-leb 64 (b + k) (omega arith), h (b + k) (omega arith) (omega arith)) refl)
     refl
-    (after (at + 5) (set rows (s .n) team′) (stored-long rows (s .n) team′ (o .long) (o .few)) (left-next file at 5 is))
+    (rw (here, set-set rows 13 row row′) (glues-read file rest fuel n rows row′ b long some k (at + 2) (omega arith) (λ i low high. named-other row (b + k) n 255 255 255 255 i (omega arith) (h i low (omega arith))) after (left-next file at 2 is)))
 
--- n teams are read, and then the rest
-abbrev moreTeams : ℕ → ℕ → ℕ
-moreTeams zero fuel = fuel
-moreTeams (suc n) fuel = suc (more 64 (suc (moreTeams n fuel)))
+-- ---- the rows at the end
 
-mounts-read : (file rest : List ℕ) (fuel : ℕ) → ((at : ℕ) (s : State) (rows : List Team) → s .n ≡ 12 → drop at file ≡ rest → Accepts fuel file at s rows)
-    → (n at : ℕ) (s : State) (rows : List Team) → s .m ≡ 64 → s .n + n ≡ 12 → length rows ≡ 13 → drop at file ≡ mounts n rest → Accepts (moreTeams n fuel) file at s rows
-unfolding fault changedState changedTeam
-mounts-read file rest fuel after zero at s rows m few long is = after at s rows (omega arith) is
-mounts-read file rest fuel after (suc n) at s rows m few long is =
-    let s′ = changedState s (Mounts 64) in
-    let team′ = changedTeam (openTeam rows (s .n)) (Mounts 64) in
-    let here = stored-open rows (s .n + 1) team′ long (omega arith) in
-    passes (more 64 (suc (moreTeams n fuel))) file at s rows (Mounts 64)
-    (command-left file at (mounts (suc n) rest) is 8 2 refl refl (omega arith) (omega arith))
-    (rw (lt-leb 12 (s .n) (omega arith)) refl)
+-- the pool's row, that of a team, and that of the glued instruments after the first team and after the second
+pool : Team
+pool = shelved 64 blankTeam
+
+full : Team
+full = changedTeam 0 (fitted 64 (openedTeam mountsKind 64 255)) (Days 0 0 255 255)
+
+half : Team
+half = stuck 1 0 32 blankTeam
+
+whole : Team
+whole = stuck 2 32 32 half
+
+-- a team is read, and then the rest
+mounts-read : (file rest : List ℕ) (fuel n : ℕ) (rows : List Team) → length rows ≡ 14 → n < 12 → (at : ℕ)
+    → ((at : ℕ) → drop at file ≡ rest → Accepts fuel file at (opened (n + 1)) (set rows (n + 1) full)) → drop at file ≡ mounts rest → Accepts (suc (more 64 (suc fuel))) file at (opened n) rows
+unfolding fault changedState changedTeam full
+mounts-read file rest fuel n rows long few at after is =
+    let row = openedTeam mountsKind 64 255 in
+    let filled = fitted 64 row in
+    let here = stored rows (n + 1) filled long (omega arith) in
+    passes (more 64 (suc fuel)) file at (opened n) rows (Mounts 64)
+    (command-left file at (mounts rest) is 8 2 refl refl (omega arith) (omega arith))
+    (rw (lt-leb 12 n (omega arith)) refl)
     refl
-    (fits-read file (dated (mounts n rest)) (suc (moreTeams n fuel)) s′
-    (days-read file (mounts n rest) (moreTeams n fuel) s′ (λ at′ rows′ long′ is′. mounts-read file rest fuel after n at′ s′ rows′ m (omega arith) long′ is′))
-    64 (at + 2) (set rows (s .n + 1) team′) (omega arith)
-    (record {
-      m = m;
-      some = omega arith;
-      few = omega arith;
-      long = stored-long rows (s .n + 1) team′ long (omega arith);
-      kind = rw here refl;
-      undated = rw here refl;
-      unnamed = λ i _. rw here (named-none i);
-    })
+    (fits-read file (dated rest) (suc fuel) (n + 1) rows row long (omega arith) refl 64 (at + 2) (omega arith) (λ i _. named-none i)
+    (λ at′ is′.
+    passes fuel file at′ (opened (n + 1)) (set rows (n + 1) filled) (Days 0 0 255 255)
+    (command-left file at′ (dated rest) is′ 11 5 refl refl (omega arith) (omega arith))
+    (rw (here, ne-eqb (n + 1) 0 (omega arith)) refl)
+    refl
+    (rw (here, set-set rows (n + 1) filled full) (after (at′ + 5) (left-next file at′ 5 is′))))
     (left-next file at 2 is))
 
--- END, with nothing after it
-end-read : (file : List ℕ) (fuel at : ℕ) (s : State) (rows : List Team) → s .n ≡ 12 → drop at file ≡ 7 ∷ [] → Accepts (suc fuel) file at s rows
+-- so many teams are read, and then the rest
+abbrev filledRows : (n k : ℕ) → List Team → List Team
+filledRows n zero rows = rows
+filledRows n (suc k) rows = filledRows (n + 1) k (set rows (n + 1) full)
+
+abbrev moreTeams : ℕ → ℕ → ℕ
+moreTeams zero fuel = fuel
+moreTeams (suc k) fuel = suc (more 64 (suc (moreTeams k fuel)))
+
+many-read : (file rest : List ℕ) (fuel : ℕ) (k n : ℕ) (rows : List Team) → length rows ≡ 14 → n + k ≤ 12 → (at : ℕ)
+    → ((at : ℕ) (m : ℕ) → m ≡ n + k → drop at file ≡ rest → Accepts fuel file at (opened m) (filledRows n k rows)) → drop at file ≡ manyMounts k rest → Accepts (moreTeams k fuel) file at (opened n) rows
+many-read file rest fuel zero n rows long few at after is = after at n (omega arith) is
+many-read file rest fuel (suc k) n rows long few at after is =
+    mounts-read file (manyMounts k rest) (moreTeams k fuel) n rows long (omega arith) at
+    (λ at′ is′. many-read file rest fuel k (n + 1) (set rows (n + 1) full) (length-set rows (n + 1) full ∙ long) (omega arith) at′ (λ at″ m e is″. after at″ m (omega arith) is″) is′)
+    is
+
+-- END, with nothing after it, where the glued instruments of every team stand
+end-read : (file : List ℕ) (fuel at n : ℕ) (rows : List Team) → n ≡ 12 → allStand (accepted (opened n) rows) ≡ true → drop at file ≡ 7 ∷ [] → Accepts (suc fuel) file at (opened n) rows
 unfolding fault
-end-read file fuel at s rows few is =
+end-read file fuel at n rows few stand is =
     let command = command-left file at (7 ∷ []) is 7 1 refl refl (omega arith) (omega arith) in
     let long = length-left file at (7 ∷ []) is in
-    ap (λ (r : Reading). r .refusal) (step-end fuel file at s rows (rw (command, few) refl) (rw command refl))
-    ∙ rw (le-ltb (at + 1) (length file) (omega arith)) refl
+    ap (λ (r : Reading). r .refusal) (step-end fuel file at (opened n) rows (rw (command, few) refl) (rw command refl))
+    ∙ rw (stand, le-ltb (at + 1) (length file) (omega arith)) refl
+
+-- the rows at the end: the pool's, twelve teams, and the glued instruments
+last : List Team
+last = pool ∷ (replicate 12 full ++ whole ∷ [])
+
+-- ---- they stand
+
+-- the reading at the end
+abbrev r : Reading
+r = accepted (opened 12) last
+
+last-team : (t : ℕ) → t < 12 → getD last (t + 1) blankTeam ≡ full
+unfolding last
+last-team t l =
+    let e : t + 1 ≡ suc t = omega arith in
+    let long : length (replicate 12 full) ≡ 12 = refl in
+    ap (λ (k : ℕ). getD last k blankTeam) e ∙ List·getD-append (replicate 12 full) (whole ∷ []) blankTeam t (omega arith) ∙ getD-replicate 12 t full blankTeam l
+
+is-team : (t : ℕ) → t < 12 → getD (r .teams) t blankTeam ≡ full
+is-team t l = each-at (λ t. getD last (t + 1) blankTeam) blankTeam 12 t l ∙ last-team t l
+
+is-days : (t : ℕ) → t < 12 → getD (r .days) t always ≡ always
+unfolding full changedTeam
+is-days t l = each-at (λ t. daysOf (getD last (t + 1) blankTeam)) always 12 t l ∙ ap daysOf (last-team t l)
+
+is-shelf : (i : ℕ) → i < 64 → getD (r .shelf) i always ≡ always
+unfolding last pool
+is-shelf i l =
+    each-at (λ i. cond (ltb i 64) (shelfOf pool i) always) always 64 i l
+    ∙ rw (lt-ltb i 64 l, getD-replicate {A = ℕ} 64 i 10 255 l, getD-replicate {A = ℕ} 64 i 0 255 l, getD-replicate {A = ℕ} 64 i 255 255 l) refl
+
+-- every instrument fits every mount of each team
+is-fitted : (i : ℕ) → i < 64 → Fitted full i
+unfolding full changedTeam
+is-fitted i l = record {
+  named = getD-replicate 64 i 9 255 l;
+  first = getD-replicate 64 i 255 0 l;
+  second = getD-replicate 64 i 255 0 l;
+  third = getD-replicate 64 i 255 0 l;
+  fourth = getD-replicate 64 i 255 0 l;
+}
+
+-- the first half is glued to the first team and the other half to the second
+is-glued : (i : ℕ) → i < 64 → Dec (i < 32) → (((i < 32) × (getD (r .glue) i 255 ≡ 1)) ⊎ ((32 ≤ i) × (getD (r .glue) i 255 ≡ 2)))
+unfolding last whole half
+is-glued i l (yes b) = let long : length {A = ℕ} (replicate 32 1) ≡ 32 = refl in inl (b, List·getD-append {A = ℕ} (replicate 32 1) (replicate 32 2) 255 i (omega arith) ∙ getD-replicate 32 i 1 255 b)
+is-glued i l (no c) =
+    let e : i ≡ 32 + (i - 32) = omega arith in
+    inr (omega arith, ap (λ (k : ℕ). getD (r .glue) k 255) e ∙ getD-append-add {A = ℕ} (replicate 32 1) (replicate 32 2) (i - 32) 255 ∙ getD-replicate 32 (i - 32) 2 255 (omega arith))
+
+full-kind : full .kind ≡ mountsKind
+unfolding full changedTeam
+full-kind = refl
+
+full-channels : full .channels ≡ 64
+unfolding full changedTeam
+full-channels = refl
+
+-- so those of a team stand
+longest-stands : (t : ℕ) → t < 12 → Stands r t
+longest-stands t l =
+    indep-yes (teamBefore r t) (gluedTo r t)
+    (full-indep 64 (32 * t) (getD (r .teams) t blankTeam) (word 64 (usable r t)) (gluedTo r t) (rw (is-team t l) full-kind) (λ i b _. rw (is-team t l) (is-fitted i b)) stretch (rw (is-team t l, full-channels) (size-le 64 (gluedTo r t))) (record { at = λ i b _. usable-there i b }))
+  where
+    stretch : (i : ℕ) → i < 64 → T (gluedTo r t i) → (32 * t ≤ i) × (i < 32 * t + 32)
+    stretch i b g =
+        let e = eqb-true (getD (r .glue) i 255) (t + 1) (T→true (gluedTo r t i) g) in
+        ⊎-elim (λ (h : (i < 32) × (getD (r .glue) i 255 ≡ 1)). let low = h .0 in let is = h .1 in (omega arith, omega arith)) (λ (h : (32 ≤ i) × (getD (r .glue) i 255 ≡ 2)). let low = h .0 in let is = h .1 in (omega arith, omega arith)) (is-glued i b (decLt i 32))
+
+    usable-there : (i : ℕ) → i < 64 → T (bit (word 64 (usable r t)) i)
+    usable-there i b = subst⁻¹ T (bit-word 64 (usable r t) i) (rw (lt-ltb i 64 b, is-days t l, is-shelf i b) tt)
+
+-- no instrument of the other half is named after the first team
+half-free : (i : ℕ) → 32 ≤ i → i < 64 → named (half .named) i ≡ false
+unfolding half
+half-free i low high =
+    let e : i ≡ 32 + (i - 32) = omega arith in
+    ap (λ (x : ℕ). not (eqb x 255)) (ap (λ (k : ℕ). getD (half .named) k 255) e ∙ getD-append-add {A = ℕ} (replicate 32 1) (replicate 32 255) (i - 32) 255 ∙ getD-replicate 32 (i - 32) 255 255 (omega arith))
 
 -- the plan is read to its end
 pub longest-accepted : readPlan longest .refusal ≡ 0
-unfolding longest fault changedState changedTeam
+unfolding longest last pool half whole fault changedState changedTeam
 longest-accepted =
-    let s = changedState start (Start 1 64) in
-    ap (λ (r : Reading). r .refusal) (plan-start longest refl)
-    ∙ passes (more 64 (moreTeams 12 (suc 4223))) longest 0 start (replicate 13 blankTeam) (Start 1 64) (command-left longest 0 longest refl 1 3 refl refl (omega arith) (omega arith)) refl refl
-    (shelves-read longest (mounts 12 (7 ∷ [])) (moreTeams 12 (suc 4223)) s (λ at rows long is. mounts-read longest (7 ∷ []) (suc 4223) (end-read longest 4223) 12 at s rows refl refl long is) 64 3 (replicate 13 blankTeam) (omega arith)
-    (record { m = refl; none = refl; long = refl; unnamed = λ i _. named-none i })
-    refl)
+    let none = replicate 14 blankTeam in
+    let rows₀ = set none 0 pool in
+    let rows₁ = set rows₀ 1 full in
+    let rows₂ = set (set rows₁ 13 half) 2 full in
+    ap (λ (x : Reading). x .refusal) (plan-start longest refl)
+    ∙ passes (more 64 (suc (more 64 (suc (more 32 (suc (more 64 (suc (more 32 (moreTeams 10 (suc 4287)))))))))))
+    longest 0 start none (Start 1 64) (command-left longest 0 longest refl 1 3 refl refl (omega arith) (omega arith)) refl refl
+    (shelves-read longest _ _ none blankTeam refl 64 3 (omega arith) (λ i _. named-none i)
+    (λ at₁ is₁. mounts-read longest _ _ 0 rows₀ refl (omega arith) at₁
+    (λ at₂ is₂. glues-read longest _ _ 1 rows₁ blankTeam 0 refl (omega arith) 32 at₂ (omega arith) (λ i _ _. named-none i)
+    (λ at₃ is₃. mounts-read longest _ _ 1 (set rows₁ 13 half) refl (omega arith) at₃
+    (λ at₄ is₄. glues-read longest _ _ 2 rows₂ half 32 refl (omega arith) 32 at₄ (omega arith) half-free
+    (λ at₅ is₅. many-read longest (7 ∷ []) (suc 4287) 10 2 (set rows₂ 13 whole) refl (omega arith) at₅
+    (λ at₆ n e is₆. end-read longest 4287 at₆ n _ (omega arith) (rw e (sym (all-stand r longest-stands))) is₆)
+    is₅) is₄) is₃) is₂) is₁) refl)

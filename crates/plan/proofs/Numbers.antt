@@ -1,28 +1,25 @@
--- Every refusal of Read has a number of at most 9, or 17.
-use Prim.Native.Nat.{ℕ, _+_, _≤_}
+-- Every refusal of Read has a number of at most 9, or 17 or 18.
+use Prim.Native.Nat.{ℕ, _≤_}
 use mathlib.Core.Path.{_≡_, refl}
 use mathlib.Core.Bool.{Bool, true, false, cond}
 use mathlib.Core.Logic.{_⊎_, inl, inr, ⊎-elim}
 use mathlib.Core.List.{List, [], _∷_}
 use native.Mathlib.Omega.{arith}
-use lib.Dec.{ltb}
-use lib.ListN.{length}
 use Rattle.matroid.specs.Search.{All}
 use Rattle.command.specs.declared.Command.{Command}
-use Rattle.command.specs.declared.Command.the-variants.{Missing, Unknown, Short, Start, Caps, Loops, Mounts, Class, Put, Span, Fit, Shelf, Days, End}
-use Rattle.plan.specs.declared.Reading.{Reading}
+use Rattle.command.specs.declared.Command.the-variants.{Missing, Unknown, Short, Start, Caps, Loops, Mounts, Class, Put, Span, Fit, Shelf, Days, Glue, End}
 use Rattle.command.specs.declared.State.{State}
 use Rattle.team.specs.declared.Team.{Team}
 use Rattle.command.specs.Command.{commandAt}
 use Rattle.judge.specs.Fault.{rulesOf, fault}
 use Rattle.command.specs.Rule.{Rule, firstBroken}
-use Rattle.carry.specs.Carry.{openTeam}
-use Rattle.plan.specs.Read.{refused, accepted, readPlan}
+use Rattle.plan.specs.Read.{readPlan}
+use Rattle.plan.proofs.Steps.{workedOn, finished-by}
 use Rattle.plan.proofs.Bounds.{all-readings}
 
 -- such a number
 abbrev Planned : ℕ → Type 0
-Planned k = (k ≤ 9) ⊎ (k ≡ 17)
+Planned k = (k ≤ 9) ⊎ (k ≡ 17) ⊎ (k ≡ 18)
 
 -- the rules of every command have such numbers
 Small : Rule ℕ → Type 0
@@ -41,8 +38,9 @@ rules-small at s team (Class class cap) = (inl (omega arith), (inl (omega arith)
 rules-small at s team (Put instrument class) = (inl (omega arith), (inl (omega arith), (inl (omega arith), (inl (omega arith), tt))))
 rules-small at s team (Span instrument a b) = (inl (omega arith), (inl (omega arith), (inl (omega arith), (inl (omega arith), (inl (omega arith), (inl (omega arith), tt))))))
 rules-small at s team (Fit instrument a b c d) = (inl (omega arith), (inl (omega arith), (inl (omega arith), tt)))
-rules-small at s team (Shelf instrument a b c d) = (inl (omega arith), (inl (omega arith), (inr refl, (inl (omega arith), tt))))
-rules-small at s team (Days a b c d) = (inl (omega arith), (inr refl, (inl (omega arith), tt)))
+rules-small at s team (Shelf instrument a b c d) = (inl (omega arith), (inl (omega arith), (inr (inl refl), (inl (omega arith), tt))))
+rules-small at s team (Days a b c d) = (inl (omega arith), (inr (inl refl), (inl (omega arith), tt)))
+rules-small at s team (Glue instrument) = (inl (omega arith), (inl (omega arith), (inl (omega arith), tt)))
 rules-small at s team End = (inl (omega arith), tt)
 
 -- and so has the first that is broken
@@ -59,17 +57,13 @@ fault-small : (at : ℕ) (s : State) (team : Team) (command : Command) → Plann
 unfolding fault
 fault-small at s team command = broken-small (rulesOf at s team command) (rules-small at s team command)
 
-pub read-number : (file : List ℕ) → (readPlan file .refusal ≤ 9) ⊎ (readPlan file .refusal ≡ 17)
+pub read-number : (file : List ℕ) → (readPlan file .refusal ≤ 9) ⊎ (readPlan file .refusal ≡ 17) ⊎ (readPlan file .refusal ≡ 18)
 read-number file =
     all-readings file (λ r. Planned (r .refusal))
-    (λ at s rows _ _ _. fault-small at s (openTeam rows (s .n)) (commandAt file at))
-    (λ at s rows _ _ _ _. ended (ltb (at + 1) (length file)) (refused 9 (at + 1)) (accepted s rows) (inl (omega arith)) (inl (omega arith)))
+    (λ at s rows _ _ _. fault-small at s (workedOn s rows (commandAt file at)) (commandAt file at))
+    (λ at s rows _ _ _ _. finished-by (λ r. Planned (r .refusal)) file at s rows (inr (inr refl)) (inl (omega arith)) (λ _ _. inl (omega arith)))
     (inl (omega arith))
-  where
-    ended : (b : Bool) (x y : Reading) → Planned (x .refusal) → Planned (y .refusal) → Planned (cond b x y .refusal)
-    ended true x y l r = l
-    ended false x y l r = r
 
--- so none is above 17
-pub read-most : (file : List ℕ) → readPlan file .refusal ≤ 17
-read-most file = ⊎-elim (λ l. omega arith) (λ e. omega arith) (read-number file)
+-- so none is above 18
+pub read-most : (file : List ℕ) → readPlan file .refusal ≤ 18
+read-most file = ⊎-elim (λ l. omega arith) (λ w. ⊎-elim (λ e. omega arith) (λ e. omega arith) w) (read-number file)

@@ -1,6 +1,6 @@
 -- The table of rows that reading fills: one row changed, and the teams of its rows.
 use Prim.Native.Nat.{ℕ, _+_, _-_, _*_, _≤_, _<_}
-use mathlib.Core.Path.{_≡_, refl, ap, _∙_}
+use mathlib.Core.Path.{_≡_, refl, sym, ap, _∙_}
 use mathlib.Core.List.{List, _++_}
 use mathlib.Core.Logic.{_≢_}
 use native.Mathlib.Omega.{arith}
@@ -9,6 +9,8 @@ use lib.ListN.{length, getD, take, drop, length-append, length-take, length-drop
 use lib.Seq.{length-take-le, take-at, drop-at, getD-take, getD-drop, getD-append-add}
 use Rattle.row.specs.Row.{part, rowTeam}
 use Rattle.row.proofs.Parts.{part-at, part-length, part-is}
+use Rattle.row.specs.Days.{daysOf}
+use Rattle.plan.specs.Read.{shelfDays}
 use Rattle.plan.specs.Progress.{rowAt}
 
 -- so many bytes of the table, as the code lends them
@@ -16,7 +18,7 @@ pub lent : (rows : List ℕ) (k : ℕ) → take (343 * k + 343 - 343 * k) (drop 
 unfolding part
 lent rows k = let e : 343 * k + 343 - 343 * k ≡ 343 = omega arith in ap (λ (n : ℕ). take n (drop (343 * k) rows)) e
 
-pub lent-length : (rows : List ℕ) (k : ℕ) → length rows ≡ 4459 → k ≤ 12 → length (part rows (343 * k) 343) ≡ 343
+pub lent-length : (rows : List ℕ) (k : ℕ) → length rows ≡ 4802 → k ≤ 13 → length (part rows (343 * k) 343) ≡ 343
 lent-length rows k long few = part-length rows (343 * k) 343 (omega arith)
 
 -- the team of a row that is lent
@@ -28,6 +30,22 @@ row-lent rows k = ap rowTeam (lent rows k)
 pub pool-lent : (rows : List ℕ) → rowTeam (take (343 - 0) (drop 0 rows)) ≡ rowAt rows 0
 unfolding rowAt part
 pool-lent rows = refl
+
+-- the days of a row that is lent, and the shelf days by the pool's
+pub days-lent : (rows : List ℕ) (k : ℕ) → daysOf (rowTeam (take (343 * k + 343 - 343 * k) (drop (343 * k) rows))) ≡ daysOf (rowAt rows k)
+days-lent rows k = ap daysOf (row-lent rows k)
+
+pub shelf-lent : (m : ℕ) (rows : List ℕ) → shelfDays m (rowTeam (take (343 - 0) (drop 0 rows))) ≡ shelfDays m (rowAt rows 0)
+shelf-lent m rows = ap (shelfDays m) (pool-lent rows)
+
+-- the teams of the glued instruments, as the code lends them
+pub marks-lent : (rows : List ℕ) → length rows ≡ 4802 → take (4541 - 4477) (drop 4477 rows) ≡ rowAt rows 13 .named
+unfolding rowAt rowTeam part
+marks-lent rows long =
+    let row = part rows 4459 343 in
+    let wide = part-length rows 4459 343 (omega arith) in
+    sym (part-is rows 4477 64 (part row 18 64) (omega arith) (part-length row 18 64 (omega arith))
+    (λ i b. let e : 4459 + (18 + i) ≡ 4477 + i = omega arith in part-at row 18 64 i 0 b ∙ part-at rows 4459 343 (18 + i) 0 (omega arith) ∙ ap (λ (k : ℕ). getD rows k 0) e))
 
 -- a part of a list that is put back, with as many entries as it had
 module _ (l : List ℕ) (at many : ℕ) (fits : at + many ≤ length l) (ys : List ℕ) (long : length ys ≡ many) where
@@ -57,7 +75,7 @@ module _ (l : List ℕ) (at many : ℕ) (fits : at + many ≤ length l) (ys : Li
       ∙ getD-drop many (drop at l) j d ∙ getD-drop at l (many + j) d ∙ ap (λ (k : ℕ). getD l k d) e′
 
 -- one row of the table is put back
-module _ (rows : List ℕ) (k : ℕ) (long : length rows ≡ 4459) (few : k ≤ 12) (ys : List ℕ) (same : length ys ≡ 343) where
+module _ (rows : List ℕ) (k : ℕ) (long : length rows ≡ 4802) (few : k ≤ 13) (ys : List ℕ) (same : length ys ≡ 343) where
   fits : 343 * k + 343 ≤ length rows
   fits = omega arith
 
@@ -68,7 +86,7 @@ module _ (rows : List ℕ) (k : ℕ) (long : length rows ≡ 4459) (few : k ≤ 
   unfolding rowAt
   row-put = ap rowTeam (put-part rows (343 * k) 343 fits ys same)
 
-  row-kept : (j : ℕ) → j ≤ 12 → j ≢ k → rowAt rows′ j ≡ rowAt rows j
+  row-kept : (j : ℕ) → j ≤ 13 → j ≢ k → rowAt rows′ j ≡ rowAt rows j
   unfolding rowAt
   row-kept j few′ other =
       ap rowTeam (part-is rows (343 * j) 343 (part rows′ (343 * j) 343) (omega arith) (part-length rows′ (343 * j) 343 (omega (arith, put-length rows (343 * k) 343 fits ys same)))
@@ -85,5 +103,5 @@ module _ (rows : List ℕ) (k : ℕ) (long : length rows ≡ 4459) (few : k ≤ 
   pub put-row : rowAt (take (343 * k) rows ++ (ys ++ drop (343 * k + 343 - 343 * k) (drop (343 * k) rows))) k ≡ rowTeam ys
   put-row = ap (λ (l : List ℕ). rowAt l k) put-back ∙ row-put
 
-  pub put-other : (j : ℕ) → j ≤ 12 → j ≢ k → rowAt (take (343 * k) rows ++ (ys ++ drop (343 * k + 343 - 343 * k) (drop (343 * k) rows))) j ≡ rowAt rows j
+  pub put-other : (j : ℕ) → j ≤ 13 → j ≢ k → rowAt (take (343 * k) rows ++ (ys ++ drop (343 * k + 343 - 343 * k) (drop (343 * k) rows))) j ≡ rowAt rows j
   put-other j few′ other = ap (λ (l : List ℕ). rowAt l j) put-back ∙ row-kept j few′ other

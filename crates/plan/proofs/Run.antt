@@ -1,24 +1,24 @@
 -- The loop of `read_commands`: what is still to be read decides the answer.
 use Prim.Native.Nat.{ℕ, zero, suc, _+_, _-_, _≤_, _<_}
 use mathlib.Core.Path.{_≡_, refl, sym, ap, _∙_, subst}
-use mathlib.Core.Bool.{Bool, true, false, cond, true≢false}
-use mathlib.Core.Logic.{_⊎_, inl, inr, _≢_}
-use mathlib.Core.List.{List, []}
+use mathlib.Core.Bool.{Bool, true, false, _||_, cond, true≢false, or-false}
+use mathlib.Core.Logic.{_⊎_, inl, inr, _≢_, ⊎-elim}
+use mathlib.Core.List.{List}
 use native.Mathlib.Omega.{arith}
 use native.Mathlib.Decide.{ℕ-discrete, decLe}
 use lib.Dec.{eqb, leb, ltb}
 use lib.ListN.{length, getD, set, replicate, length-set}
 use lib.Seq.{getD-set-same, getD-set-other, ext-getD}
-use borrow.Author.Tests.{lt-leb, le-leb, ne-eqb, eqb-true, eqb-false}
+use borrow.Author.Tests.{lt-leb, le-leb, eq-eqb, ne-eqb, eqb-true, eqb-false}
 use Rattle.command.specs.declared.Command.{Command}
-use Rattle.command.specs.declared.Command.the-variants.{Missing, Unknown, Short, Start, Caps, Loops, Mounts, Class, Put, Span, Fit, Shelf, Days, End}
+use Rattle.command.specs.declared.Command.the-variants.{Missing, Unknown, Short, Start, Caps, Loops, Mounts, Class, Put, Span, Fit, Shelf, Days, Glue, End}
 use Rattle.plan.specs.declared.step.Progress.{Progress}
 use Rattle.plan.specs.declared.Reading.{Reading}
 use Rattle.command.specs.declared.State.{State}
 use Rattle.team.specs.declared.Team.{Team}
 use Rattle.command.specs.Command.{commandAt, bytesOf}
 use Rattle.judge.specs.Fault.{fault, isEnd}
-use Rattle.carry.specs.Carry.{start, openTeam, changedTeam, changedState}
+use Rattle.carry.specs.Carry.{start, openTeam, rowOf, changedTeam, changedState}
 use Rattle.row.specs.Days.{daysOf}
 use Rattle.team.specs.Team.{blankTeam}
 use Rattle.days.specs.declared.Days.{Days as LoanDays}
@@ -27,7 +27,7 @@ use Rattle.plan.specs.Read.{refused, accepted, finished, teamsOf, teamDa
 use Rattle.plan.specs.Progress.{rowAt, rowsIn, Followed, Ended}
 use Rattle.judge.proofs.Standing.{whole}
 use Rattle.plan.proofs.Each.{each-length, each-at}
-use Rattle.plan.proofs.Steps.{number, next, step-refused, step-end, step-next, plan-start}
+use Rattle.plan.proofs.Steps.{row-of, workedOn, number, next, step-refused, step-end, step-next, plan-start}
 use Rattle.plan.proofs.Following.{few-teams, small-pool}
 
 -- The answer is what reading from here on comes to, and there is fuel for it.
@@ -40,7 +40,7 @@ pub record Run (file : List ℕ) (at : ℕ) (s : State) (teams : List Team) : Ty
   pub same : readPlan file ≡ readFrom fuel file at s teams
 
 -- at the start
-pub run-start : (file : List ℕ) → getD file 0 0 ≡ 1 → Run file 0 start (replicate 13 blankTeam)
+pub run-start : (file : List ℕ) → getD file 0 0 ≡ 1 → Run file 0 start (replicate 14 blankTeam)
 run-start file e = record { inside = omega arith; few = omega arith; small = omega arith; fuel = suc (length file); enough = omega arith; same = plan-start file e }
 
 module _ (file : List ℕ) (at : ℕ) (s : State) (teams : List Team) (run : Run file at s teams) where
@@ -65,13 +65,13 @@ module _ (file : List ℕ) (at : ℕ) (s : State) (teams : List Team) (run : Run
   run-next : number file at s teams ≡ 0 → isEnd (commandAt file at) ≡ false → next Run file at s teams
   run-next z e =
       let (k, f) = more in
-      let w = whole file at s (openTeam teams (s .n)) z in
+      let w = whole file at s (workedOn s teams (commandAt file at)) z in
       let some = w .some in
       let enough = run .enough in
       record {
         inside = w .fits;
-        few = few-teams at s (openTeam teams (s .n)) (commandAt file at) (run .few) z;
-        small = small-pool at s (openTeam teams (s .n)) (commandAt file at) (run .small) z;
+        few = few-teams at s (workedOn s teams (commandAt file at)) (commandAt file at) (run .few) z;
+        small = small-pool at s (workedOn s teams (commandAt file at)) (commandAt file at) (run .small) z;
         fuel = k;
         enough = omega arith;
         same = run .same ∙ ap (λ (f : ℕ). readFrom f file at s teams) f ∙ step-next k file at s teams z e;
@@ -80,21 +80,34 @@ module _ (file : List ℕ) (at : ℕ) (s : State) (teams : List Team) (run : Run
   -- a command that is carried out is passed
   run-longer : number file at s teams ≡ 0 → length file - (at + bytesOf (commandAt file at)) < length file - at
   run-longer z =
-      let w = whole file at s (openTeam teams (s .n)) z in
+      let w = whole file at s (workedOn s teams (commandAt file at)) z in
       let some = w .some in
       let fits = w .fits in
       omega arith
 
 -- ---- the rows
 
+-- whether row k holds what has been read: one of the first n, the pool's, or that of the glued instruments
+abbrev held : (n k : ℕ) → Bool
+held n k = leb k n || eqb k 13
+
 -- row k of the rows
-pub row-in : (rows : List ℕ) (n k : ℕ) → k < 13 → getD (rowsIn rows n) k blankTeam ≡ cond (leb k n) (rowAt rows k) blankTeam
+row-in : (rows : List ℕ) (n k : ℕ) → k < 14 → getD (rowsIn rows n) k blankTeam ≡ cond (held n k) (rowAt rows k) blankTeam
 unfolding rowsIn
-row-in rows n k l = each-at (λ k. cond (leb k n) (rowAt rows k) blankTeam) blankTeam 13 k l
+row-in rows n k l = each-at (λ k. cond (held n k) (rowAt rows k) blankTeam) blankTeam 14 k l
+
+-- it is row k of the table where it is one of the first n, or row 13
+pub row-first : (rows : List ℕ) (n k : ℕ) → k < 14 → k ≤ n → getD (rowsIn rows n) k blankTeam ≡ rowAt rows k
+row-first rows n k l b = row-in rows n k l ∙ rw (le-leb k n b) refl
+
+pub row-last : (rows : List ℕ) (n k : ℕ) → n ≤ 12 → k ≡ 13 → getD (rowsIn rows n) k blankTeam ≡ rowAt rows k
+row-last rows n k few e = row-in rows n k (omega arith) ∙ rw (lt-leb k n (omega arith), eq-eqb k 13 e) refl
 
 -- the teams of these rows, and their days
 pub team-row : (rows : List ℕ) (n t : ℕ) → t < 12 → getD (rowsIn rows n) (t + 1) blankTeam ≡ cond (ltb t n) (rowAt rows (t + 1)) blankTeam
-team-row rows n t l = let e : t + 1 ≡ suc t = omega arith in row-in rows n (t + 1) (omega arith) ∙ ap (λ (k : ℕ). cond (leb k n) (rowAt rows (t + 1)) blankTeam) e
+team-row rows n t l =
+    let e : t + 1 ≡ suc t = omega arith in
+    row-in rows n (t + 1) (omega arith) ∙ rw (ne-eqb (t + 1) 13 (omega arith), or-false (leb (t + 1) n)) (ap (λ (k : ℕ). cond (leb k n) (rowAt rows (t + 1)) blankTeam) e)
 
 pub days-row : (rows : List ℕ) (n t : ℕ) → t < 12 → daysOf (getD (rowsIn rows n) (t + 1) blankTeam) ≡ cond (ltb t n) (daysOf (rowAt rows (t + 1))) always
 days-row rows n t l = ap daysOf (team-row rows n t l) ∙ go (ltb t n)
@@ -103,57 +116,63 @@ days-row rows n t l = ap daysOf (team-row rows n t l) ∙ go (ltb t n)
     go true = refl
     go false = refl
 
--- and the pool's row
-pool-row : (rows : List ℕ) (n : ℕ) → getD (rowsIn rows n) 0 blankTeam ≡ rowAt rows 0
-pool-row rows n = row-in rows n 0 (omega arith) ∙ rw (le-leb 0 n (omega arith)) refl
-
 -- the answer to a file that is accepted, by its parts
 pub accepted-is : (rows : List ℕ) (s : State) (teams : List Team) (days shelf : List LoanDays) → teams ≡ teamsOf (rowsIn rows (s .n)) → days ≡ teamDays (rowsIn rows (s .n))
-    → shelf ≡ shelfDays (s .m) (rowAt rows 0) → record { refusal = 0; place = 0; m = s .m; n = s .n; teams = teams; shelf = shelf; days = days } ≡ accepted s (rowsIn rows (s .n))
-accepted-is rows s teams days shelf is-teams is-days is-shelf =
-    let is-shelf′ = is-shelf ∙ ap (shelfDays (s .m)) (sym (pool-row rows (s .n))) in
-    λ j. record { refusal = 0; place = 0; m = s .m; n = s .n; teams = is-teams j; shelf = is-shelf′ j; days = is-days j }
+    → shelf ≡ shelfDays (s .m) (rowAt rows 0) → s .n ≤ 12 → (glue : List ℕ) → glue ≡ rowAt rows 13 .named
+    → record { refusal = 0; place = 0; m = s .m; n = s .n; teams = teams; shelf = shelf; days = days; glue = glue } ≡ accepted s (rowsIn rows (s .n))
+accepted-is rows s teams days shelf is-teams is-days is-shelf few glue is-glue =
+    let is-shelf′ = is-shelf ∙ ap (shelfDays (s .m)) (sym (row-first rows (s .n) 0 (omega arith) (omega arith))) in
+    let is-glue′ = is-glue ∙ ap (λ (t : Team). t .named) (sym (row-last rows (s .n) 13 few refl)) in
+    λ j. record { refusal = 0; place = 0; m = s .m; n = s .n; teams = is-teams j; shelf = is-shelf′ j; days = is-days j; glue = is-glue′ j }
 
-rows-long : (rows : List ℕ) (n : ℕ) → length (rowsIn rows n) ≡ 13
+rows-long : (rows : List ℕ) (n : ℕ) → length (rowsIn rows n) ≡ 14
 unfolding rowsIn
-rows-long rows n = each-length (λ k. cond (leb k n) (rowAt rows k) blankTeam) 13
+rows-long rows n = each-length (λ k. cond (held n k) (rowAt rows k) blankTeam) 14
 
 -- tables with the same rows
-rows-same : (rows rows′ : List ℕ) (n : ℕ) → ((k : ℕ) → k ≤ 12 → rowAt rows′ k ≡ rowAt rows k) → rowsIn rows′ n ≡ rowsIn rows n
+rows-same : (rows rows′ : List ℕ) (n : ℕ) → ((k : ℕ) → k ≤ 13 → rowAt rows′ k ≡ rowAt rows k) → rowsIn rows′ n ≡ rowsIn rows n
 rows-same rows rows′ n same =
     let long = rows-long rows′ n in
     ext-getD blankTeam (rowsIn rows′ n) (rowsIn rows n) (long ∙ sym (rows-long rows n))
-    (λ k l. row-in rows′ n k (omega arith) ∙ ap (λ (team : Team). cond (leb k n) team blankTeam) (same k (omega arith)) ∙ sym (row-in rows n k (omega arith)))
+    (λ k l. row-in rows′ n k (omega arith) ∙ ap (λ (team : Team). cond (held n k) team blankTeam) (same k (omega arith)) ∙ sym (row-in rows n k (omega arith)))
 
--- one row changed: it is the last, and there are as many as before or one more
-module _ (rows rows′ : List ℕ) (n n′ : ℕ) (team : Team) (few : n′ ≤ 12) (near : (n′ ≡ n) ⊎ (n′ ≡ n + 1)) (row : rowAt rows′ n′ ≡ team) (other : (k : ℕ) → k ≤ 12 → k ≢ n′ → rowAt rows′ k ≡ rowAt rows k) where
+-- one row changed: it is the last, where there are as many as before or one more, or that of the glued instruments
+module _ (rows rows′ : List ℕ) (n n′ j : ℕ) (team : Team) (few : n′ ≤ 12) (near : ((n′ ≡ n) × ((j ≡ n′) ⊎ (j ≡ 13))) ⊎ ((n′ ≡ n + 1) × (j ≡ n′)))
+    (row : rowAt rows′ j ≡ team) (other : (k : ℕ) → k ≤ 13 → k ≢ j → rowAt rows′ k ≡ rowAt rows k) where
   -- the other rows are the same as before
-  other-row : (k : ℕ) → k < 13 → k ≢ n′ → getD (rowsIn rows′ n′) k blankTeam ≡ getD (rowsIn rows n) k blankTeam
+  other-row : (k : ℕ) → k < 14 → k ≢ j → getD (rowsIn rows′ n′) k blankTeam ≡ getD (rowsIn rows n) k blankTeam
   other-row k l d =
-      row-in rows′ n′ k l ∙ ap (λ (x : Team). cond (leb k n′) x blankTeam) (other k (omega arith) d) ∙ ap (λ (b : Bool). cond b (rowAt rows k) blankTeam) (below near (decLe k n)) ∙ sym (row-in rows n k l)
+      row-in rows′ n′ k l ∙ ap (λ (x : Team). cond (held n′ k) x blankTeam) (other k (omega arith) d) ∙ ap (λ (b : Bool). cond (b || eqb k 13) (rowAt rows k) blankTeam) (below near (decLe k n)) ∙ sym (row-in rows n k l)
     where
-      below : (n′ ≡ n) ⊎ (n′ ≡ n + 1) → Dec (k ≤ n) → leb k n′ ≡ leb k n
-      below (inl e) c = ap (leb k) e
-      below (inr e) (yes b) = le-leb k n′ (omega arith) ∙ sym (le-leb k n b)
-      below (inr e) (no b) = lt-leb k n′ (omega arith) ∙ sym (lt-leb k n (omega arith))
+      below : ((n′ ≡ n) × ((j ≡ n′) ⊎ (j ≡ 13))) ⊎ ((n′ ≡ n + 1) × (j ≡ n′)) → Dec (k ≤ n) → leb k n′ ≡ leb k n
+      below (inl (e, _)) c = ap (leb k) e
+      below (inr (e, last)) (yes b) = le-leb k n′ (omega arith) ∙ sym (le-leb k n b)
+      below (inr (e, last)) (no b) = lt-leb k n′ (omega arith) ∙ sym (lt-leb k n (omega arith))
 
-  rows-set : rowsIn rows′ n′ ≡ set (rowsIn rows n) n′ team
-  rows-set = ext-getD blankTeam (rowsIn rows′ n′) (set (rowsIn rows n) n′ team) (long′ ∙ sym (length-set (rowsIn rows n) n′ team ∙ long)) (λ k l. at k (omega (arith, long′)) (ℕ-discrete k n′))
+  -- the changed one is held
+  this-row : (k : ℕ) → k ≡ j → getD (rowsIn rows′ n′) k blankTeam ≡ rowAt rows′ k
+  this-row k e = ⊎-elim (λ w. ⊎-elim (λ last. row-first rows′ n′ k (omega arith) (omega arith)) (λ glue. row-last rows′ n′ k few (e ∙ glue)) (w .1)) (λ w. let last = w .1 in row-first rows′ n′ k (omega arith) (omega arith)) near
+
+  inside : j < 14
+  inside = ⊎-elim (λ w. ⊎-elim (λ last. omega arith) (λ glue. omega arith) (w .1)) (λ w. let last = w .1 in omega arith) near
+
+  rows-set : rowsIn rows′ n′ ≡ set (rowsIn rows n) j team
+  rows-set = ext-getD blankTeam (rowsIn rows′ n′) (set (rowsIn rows n) j team) (long′ ∙ sym (length-set (rowsIn rows n) j team ∙ long)) (λ k l. at k (omega (arith, long′)) (ℕ-discrete k j))
     where
-      long : length (rowsIn rows n) ≡ 13
+      long : length (rowsIn rows n) ≡ 14
       long = rows-long rows n
 
-      long′ : length (rowsIn rows′ n′) ≡ 13
+      long′ : length (rowsIn rows′ n′) ≡ 14
       long′ = rows-long rows′ n′
 
-      at : (k : ℕ) → k < 13 → Dec (k ≡ n′) → getD (rowsIn rows′ n′) k blankTeam ≡ getD (set (rowsIn rows n) n′ team) k blankTeam
-      at k l (yes e) = row-in rows′ n′ k l ∙ rw (e, le-leb n′ n′ (omega arith)) (row ∙ sym (getD-set-same (rowsIn rows n) n′ team blankTeam (omega (arith, long))))
-      at k l (no d) = other-row k l d ∙ sym (getD-set-other (rowsIn rows n) n′ k team blankTeam d)
+      at : (k : ℕ) → k < 14 → Dec (k ≡ j) → getD (rowsIn rows′ n′) k blankTeam ≡ getD (set (rowsIn rows n) j team) k blankTeam
+      at k l (yes e) = this-row k e ∙ rw e (row ∙ sym (getD-set-same (rowsIn rows n) j team blankTeam (omega (arith, long, inside))))
+      at k l (no d) = other-row k l d ∙ sym (getD-set-other (rowsIn rows n) j k team blankTeam d)
 
--- a command opens no team, or one more, which does not depend on the one that was open
+-- a command opens no team, or one more, in whose row it works and which does not depend on what stood there
 data Opening (s : State) (command : Command) : Type 0 where
   none : changedState s command .n ≡ s .n → Opening s command
-  one : changedState s command .n ≡ s .n + 1 → ((team team′ : Team) → changedTeam team command ≡ changedTeam team′ command) → Opening s command
+  one : changedState s command .n ≡ s .n + 1 → ((n : ℕ) → rowOf n command ≡ n) → ((n : ℕ) (team team′ : Team) → changedTeam n team command ≡ changedTeam n team′ command) → Opening s command
 
 opening : (s : State) (command : Command) → Opening s command
 unfolding changedState changedTeam
@@ -161,30 +180,31 @@ opening s Missing = none refl
 opening s Unknown = none refl
 opening s Short = none refl
 opening s (Start version m) = none refl
-opening s (Caps channels) = one refl (λ team team′. refl)
-opening s (Loops channels) = one refl (λ team team′. refl)
-opening s (Mounts channels) = one refl (λ team team′. refl)
+opening s (Caps channels) = one refl (λ n. refl) (λ n team team′. refl)
+opening s (Loops channels) = one refl (λ n. refl) (λ n team team′. refl)
+opening s (Mounts channels) = one refl (λ n. refl) (λ n team team′. refl)
 opening s (Class class most) = none refl
 opening s (Put instrument class) = none refl
 opening s (Span instrument a b) = none refl
 opening s (Fit instrument a b c d) = none refl
 opening s (Shelf instrument a b c d) = none refl
 opening s (Days a b c d) = none refl
+opening s (Glue instrument) = none refl
 opening s End = none refl
 
 -- Where the loop stands: the rows of the table are those that have been read.
 pub record Stands (file : List ℕ) (at : ℕ) (s : State) (rows : List ℕ) : Type 0 where
   pub run : Run file at s (rowsIn rows (s .n))
-  pub long : length rows ≡ 4459
+  pub long : length rows ≡ 4802
 
 -- before the first command every row is blank
-none-read : (rows : List ℕ) → rowAt rows 0 ≡ blankTeam → rowsIn rows 0 ≡ replicate 13 blankTeam
+none-read : (rows : List ℕ) → rowAt rows 0 ≡ blankTeam → rowAt rows 13 ≡ blankTeam → rowsIn rows 0 ≡ replicate 14 blankTeam
 unfolding rowsIn
-none-read rows blank = rw blank refl
+none-read rows blank free = rw (blank, free) refl
 
 -- at the start
-pub stands-start : (file rows : List ℕ) → getD file 0 0 ≡ 1 → length rows ≡ 4459 → rowAt rows 0 ≡ blankTeam → Stands file 0 start rows
-stands-start file rows e long blank = record { run = subst (Run file 0 start) (sym (none-read rows blank)) (run-start file e); long = long }
+pub stands-start : (file rows : List ℕ) → getD file 0 0 ≡ 1 → length rows ≡ 4802 → rowAt rows 0 ≡ blankTeam → rowAt rows 13 ≡ blankTeam → Stands file 0 start rows
+stands-start file rows e long blank free = record { run = subst (Run file 0 start) (sym (none-read rows blank free)) (run-start file e); long = long }
 
 module _ (file : List ℕ) (at : ℕ) (s : State) (rows : List ℕ) (here : Stands file at s rows) (p : Progress) (rows′ : List ℕ) (done : Followed rows at s (commandAt file at) p rows′) where
   abbrev command : Command
@@ -196,12 +216,15 @@ module _ (file : List ℕ) (at : ℕ) (s : State) (rows : List ℕ) (here : Stan
   few : s .n ≤ 12
   few = here .run .few
 
-  -- the open row is row n
-  is-open : rowAt rows (s .n) ≡ openTeam read (s .n)
-  is-open = let l = few in sym (row-in rows (s .n) (s .n) (omega arith) ∙ rw (le-leb (s .n) (s .n) (omega arith)) refl)
+  -- the row that the command works on
+  abbrev here-row : ℕ
+  here-row = rowOf (s .n) command
+
+  is-open : rowAt rows here-row ≡ openTeam read here-row
+  is-open = let l = few in sym (⊎-elim (λ e. row-first rows (s .n) here-row (omega arith) (omega arith)) (λ e. row-last rows (s .n) here-row few e) (row-of (s .n) command))
 
   abbrev f : ℕ
-  f = fault at s (rowAt rows (s .n)) command
+  f = fault at s (rowAt rows here-row) command
 
   found : f ≡ number file at s read
   found = ap (λ (team : Team). fault at s team command) is-open
@@ -255,30 +278,33 @@ module _ (file : List ℕ) (at : ℕ) (s : State) (rows : List ℕ) (here : Stan
     count : n′ ≡ changedState s command .n
     count = ap (λ (x : State). x .n) (goes-on .2)
 
-    -- the changed row is that of the team that was open, changed
-    changed-row : rowAt rows′ n′ ≡ changedTeam (rowAt rows (s .n)) command
+    -- the row that the command then works on is that of before, changed
+    abbrev next-row : ℕ
+    next-row = rowOf n′ command
+
+    changed-row : rowAt rows′ next-row ≡ changedTeam n′ (rowAt rows here-row) command
     changed-row = done .row on ∙ go (opening s command)
       where
-        go : Opening s command → changedTeam (rowAt rows n′) command ≡ changedTeam (rowAt rows (s .n)) command
-        go (none e) = ap (λ (k : ℕ). changedTeam (rowAt rows k) command) (count ∙ e)
-        go (one e free) = free (rowAt rows n′) (rowAt rows (s .n))
+        go : Opening s command → changedTeam n′ (rowAt rows next-row) command ≡ changedTeam n′ (rowAt rows here-row) command
+        go (none e) = ap (λ (k : ℕ). changedTeam n′ (rowAt rows (rowOf k command)) command) (count ∙ e)
+        go (one e own free) = free n′ (rowAt rows next-row) (rowAt rows here-row)
 
-    -- the rows are those of before, with the open one changed
-    rows-next : rowsIn rows′ n′ ≡ set read n′ (changedTeam (openTeam read (s .n)) command)
+    -- the rows are those of before, with that one changed
+    rows-next : rowsIn rows′ n′ ≡ set read next-row (changedTeam n′ (openTeam read here-row) command)
     rows-next =
-        rows-set rows rows′ (s .n) n′ (changedTeam (rowAt rows (s .n)) command) few′ near changed-row (λ k l d. done .other k l (inr d)) ∙ ap (λ (team : Team). set read n′ (changedTeam team command)) is-open
+        rows-set rows rows′ (s .n) n′ next-row (changedTeam n′ (rowAt rows here-row) command) few′ near changed-row (λ k l d. done .other k l (inr d)) ∙ ap (λ (team : Team). set read next-row (changedTeam n′ team command)) is-open
       where
         few′ : n′ ≤ 12
-        few′ = let l = few-teams at s (rowAt rows (s .n)) command few (goes-on .0) in omega (arith, count)
+        few′ = let l = few-teams at s (rowAt rows here-row) command few (goes-on .0) in omega (arith, count)
 
-        near : (n′ ≡ s .n) ⊎ (n′ ≡ s .n + 1)
-        near = elim (opening s command) [ none e ↦ inl (count ∙ e) | one e free ↦ inr (count ∙ e) ]
+        near : ((n′ ≡ s .n) × ((next-row ≡ n′) ⊎ (next-row ≡ 13))) ⊎ ((n′ ≡ s .n + 1) × (next-row ≡ n′))
+        near = elim (opening s command) [ none e ↦ inl (count ∙ e, row-of n′ command) | one e own free ↦ inr (count ∙ e, own n′) ]
 
     pub stands-next : length rows′ ≡ length rows → Stands file (at + bytesOf command) (p .s) rows′
     stands-next long =
         let next = run-next file at s read (here .run) (sym found ∙ goes-on .0) (goes-on .1) in
         record {
-          run = subst (Run file (at + bytesOf command) (p .s)) (sym rows-next) (subst (λ (x : State). Run file (at + bytesOf command) x (set read (x .n) (changedTeam (openTeam read (s .n)) command))) (sym (goes-on .2)) next);
+          run = subst (Run file (at + bytesOf command) (p .s)) (sym rows-next) (subst (λ (x : State). Run file (at + bytesOf command) x (set read (rowOf (x .n) command) (changedTeam (x .n) (openTeam read here-row) command))) (sym (goes-on .2)) next);
           long = long ∙ here .long;
         }
 

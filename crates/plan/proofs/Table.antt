@@ -1,16 +1,17 @@
 -- The proved table: the cases that document 01 marks P, computed from the definitions and the plan's bytes.
-use Prim.Native.Nat.{ℕ, zero, suc, _<_}
-use mathlib.Core.Path.{_≡_, refl, ap, _∙_, subst, subst⁻¹, fun-ext}
-use mathlib.Core.Bool.{Bool, true, false, not, _&&_, _||_, cond}
+use Prim.Native.Nat.{ℕ, zero, suc, _+_, _-_, _<_}
+use mathlib.Core.Path.{_≡_, refl, sym, ap, _∙_, subst, subst⁻¹, fun-ext}
+use mathlib.Core.Bool.{Bool, true, false, not, _&&_, cond}
 use mathlib.Core.List.{List, [], _∷_}
 use native.Mathlib.Omega.{arith}
-use native.Mathlib.Decide.{decLe, ℕ-discrete}
-use lib.Dec.{T, ltb}
-use lib.ListN.{length, getD}
-use borrow.Author.Tests.{lt-ltb}
+use native.Mathlib.Decide.{decLe, decLt, ℕ-discrete}
+use lib.Dec.{T, eqb, ltb}
+use lib.ListN.{length, getD, replicate}
+use borrow.Author.Tests.{lt-ltb, le-ltb, eq-eqb, ne-eqb}
 use Rattle.matroid.specs.Taut.{and-left, and-right}
-use Rattle.matroid.specs.Set.{Set, _∩_, _∪_, size}
-use Rattle.matroid.specs.SetLaws.{size-none, within?}
+use Rattle.matroid.specs.Decide.{isYes}
+use Rattle.matroid.specs.Set.{Set, _∪_, _∖_, size}
+use Rattle.matroid.specs.SetLaws.{size-agree, within?}
 use Rattle.matroid.specs.Sum.{sum}
 use Rattle.matroid.specs.Search.{largest}
 use Rattle.matroid.specs.Matroid.{Matroid, worth}
@@ -20,9 +21,7 @@ use Rattle.matroid.specs.Cuts.{cuts}
 use Rattle.matroid.specs.Share.{least, share}
 use Rattle.matroid.specs.Best.{best}
 use Rattle.matroid.proofs.Rank.{worth-same}
-use Rattle.matroid.proofs.Building.{worth-restrict}
 use Rattle.sets.specs.Bits.{bit, word}
-use Rattle.sets.proofs.Below.{bit-none}
 use Rattle.sets.proofs.Gathering.{bit-word}
 use Rattle.team.specs.declared.Team.{Team}
 use Rattle.team.specs.Team.{blankTeam}
@@ -31,54 +30,107 @@ use Rattle.caps.specs.Partition.{partition}
 use Rattle.loops.specs.Graphic.{graphic}
 use Rattle.kinds.specs.Teams.{kindMatroid}
 use Rattle.kinds.specs.declared.Valuation.{Valuation}
-use Rattle.kinds.specs.Valuations.{matroidOf, matroid-of, blankValuation}
-use Rattle.kinds.proofs.Contracting.{stands-empty, worth-above}
+use Rattle.kinds.specs.Valuations.{matroidOf, matroid-of}
+use Rattle.kinds.proofs.Above.{plain-worth}
 use Rattle.plan.specs.declared.Reading.{Reading}
-use Rattle.command.specs.Command.{commandAt}
-use Rattle.judge.specs.Fault.{fault}
-use Rattle.carry.specs.Carry.{changedTeam, changedState}
-use Rattle.plan.specs.Read.{readFrom, readPlan}
-use Rattle.plan.specs.Teams.{usable, teamMatroid, present, presentCount}
+use Rattle.command.specs.declared.Command.{Command}
+use Rattle.command.specs.declared.State.{State}
+use Rattle.command.specs.Rule.{rule, firstBroken}
+use Rattle.command.specs.Command.{commandAt, bytesOf}
+use Rattle.judge.specs.Fault.{fault, isEnd}
+use Rattle.carry.specs.Carry.{start, changedTeam, changedState}
+use Rattle.plan.specs.Read.{refused, accepted, finished, readFrom, readPlan}
+use Rattle.plan.specs.Teams.{usable, glued, gluedTo, teamBefore, allStand, teamMatroid, present, presentCount}
+use Rattle.plan.proofs.Steps.{number, rowsAfter, step-refused, step-end, step-next, plan-start, plan-none}
+use Rattle.plan.proofs.Gluing.{yes-worth}
+use Rattle.plan.proofs.Glued.{worth-above-glued}
+use Rattle.plan.proofs.Answers.{absent-any, rest-zero}
 
 -- ---- from a team's valuation to its tables
 
--- where none is glued, a set is worth what its usable part is worth by the team's kind
-kind-worth : (m : ℕ) (team : Team) (usable : ℕ) (S : Set) → worth (matroidOf m (record { team = team; usable = usable; glued = 0 })) S ≡ worth (restrict (kindMatroid m team) (bit usable)) S
-kind-worth m team usable S =
-    let M = kindMatroid m team in
-    let K = bit usable in
-    let whole = (S ∩ K) ∪ bit 0 in
-    let above = worth-above M (bit 0) K (stands-empty M 0 refl) S whole (worth M whole) (size m (bit 0)) (λ j. refl) refl refl in
-    let none = ap (size m) (fun-ext bit-none) ∙ size-none m in
-    let same = worth-same M {S = whole} {S′ = S ∩ K} (record { at = λ j l t. inside (S j && K j) (rw (bit-none j) at t) }) (record { at = λ j l t. rw (bit-none j) (outside (S j && K j) t) }) in
-    rw (matroid-of m (record { team = team; usable = usable; glued = 0 }), worth-restrict M K S) (omega arith)
-  where
-    inside : (b : Bool) → T (b || false) → T b
-    inside true t = t
-    inside false t = t
-
-    outside : (b : Bool) → T b → T (b || false)
-    outside true t = t
-    outside false t = t
-
--- the matroid of a team of the plan by its kind and tables and its usable instruments, and the blank one of a team not in the plan
+-- the matroid of a team before any instrument is glued, by its kind and tables and its usable instruments
 abbrev ownMatroid : (r : Reading) → ℕ → Matroid (r .m)
-ownMatroid r t = cond (ltb t (r .n)) (restrict (kindMatroid (r .m) (getD (r .teams) t blankTeam)) (bit (word (r .m) (usable r t)))) (matroidOf (r .m) blankValuation)
+ownMatroid r t = restrict (kindMatroid (r .m) (getD (r .teams) t blankTeam)) (bit (word (r .m) (usable r t)))
 
--- values every set as the team's valuation does
-own-worth : (r : Reading) (t : ℕ) → worth (teamMatroid r t) ≡ worth (ownMatroid r t)
-own-worth r t = fun-ext (λ S. go (ltb t (r .n)) S)
+before-worth : (r : Reading) (t : ℕ) (S : Set) → worth (teamBefore r t) S ≡ worth (ownMatroid r t) S
+before-worth r t = plain-worth (r .m) (getD (r .teams) t blankTeam) (word (r .m) (usable r t))
+
+-- whether the glued instruments of every team stand, by what they are worth
+abbrev ownStand : Reading → Bool
+ownStand r = eqb (size (r .n) (λ t. not (eqb (worth (ownMatroid r t) (gluedTo r t)) (size (r .m) (gluedTo r t))))) 0
+
+own-stand : (r : Reading) → allStand r ≡ ownStand r
+unfolding allStand
+own-stand r =
+    ap (λ (k : ℕ). eqb k 0)
+    (size-agree (r .n) (λ t. not (isYes (teamBefore r t .decide (gluedTo r t)))) (λ t. not (eqb (worth (ownMatroid r t) (gluedTo r t)) (size (r .m) (gluedTo r t))))
+    (λ t l. ap not (sym (yes-worth (teamBefore r t) (gluedTo r t) (worth (ownMatroid r t) (gluedTo r t)) (size (r .m) (gluedTo r t)) (sym (before-worth r t (gluedTo r t))) refl))))
+
+-- Read, with this test in place of that by the matroids, which are shut
+ownEnd : List ℕ → ℕ → State → List Team → Reading
+ownEnd file at s rows = let r = accepted s rows in firstBroken r (rule (not (ownStand r)) (refused 18 at) ∷ rule (ltb (at + 1) (length file)) (refused 9 (at + 1)) ∷ [])
+
+ownFrom : ℕ → List ℕ → ℕ → State → List Team → Reading
+ownFrom zero file at s rows = refused 2 (length file)
+ownFrom (suc k) file at s rows =
+    let command = commandAt file at in
+    elim (eqb (number file at s rows) 0) [
+      | false ↦ refused (number file at s rows) at
+      | true ↦ elim (isEnd command) [
+        | true ↦ ownEnd file at s rows
+        | false ↦ ownFrom k file (at + bytesOf command) (changedState s command) (rowsAfter s rows command)
+      ]
+    ]
+
+ownRead : List ℕ → Reading
+ownRead file = elim (eqb (getD file 0 0) 1) [
+  | false ↦ refused 1 0
+  | true ↦ ownFrom (suc (length file)) file 0 start (replicate 14 blankTeam)
+]
+
+own-from : (k : ℕ) (file : List ℕ) (at : ℕ) (s : State) (rows : List Team) → readFrom k file at s rows ≡ ownFrom k file at s rows
+unfolding readFrom ownFrom ownEnd
+own-from zero file at s rows = refl
+own-from (suc k) file at s rows = go (ℕ-discrete f 0) (isEnd command) refl (own-from k file (at + bytesOf command) (changedState s command) (rowsAfter s rows command))
   where
-    team : Team
-    team = getD (r .teams) t blankTeam
+    command : Command
+    command = commandAt file at
 
-    own : ℕ
-    own = word (r .m) (usable r t)
+    f : ℕ
+    f = number file at s rows
 
-    go : (b : Bool) (S : Set) → worth (matroidOf (r .m) (cond b (record { team = team; usable = own; glued = 0 }) blankValuation)) S
-        ≡ worth (cond b (restrict (kindMatroid (r .m) team) (bit own)) (matroidOf (r .m) blankValuation)) S
-    go true S = kind-worth (r .m) team own S
-    go false S = refl
+    ends : finished file at s rows ≡ ownEnd file at s rows
+    ends = ap (λ (b : Bool). firstBroken (accepted s rows) (rule (not b) (refused 18 at) ∷ rule (ltb (at + 1) (length file)) (refused 9 (at + 1)) ∷ [])) (own-stand (accepted s rows))
+
+    go : Dec (f ≡ 0) → (b : Bool) → isEnd command ≡ b → readFrom k file (at + bytesOf command) (changedState s command) (rowsAfter s rows command) ≡ ownFrom k file (at + bytesOf command) (changedState s command) (rowsAfter s rows command)
+        → readFrom (suc k) file at s rows ≡ ownFrom (suc k) file at s rows
+    go (no d) b e rest = step-refused k file at s rows d ∙ sym (rw (ne-eqb f 0 d, ownFrom) refl)
+    go (yes z) true e rest = step-end k file at s rows z e ∙ ends ∙ sym (rw (eq-eqb f 0 z, e, ownFrom) refl)
+    go (yes z) false e rest = step-next k file at s rows z e ∙ rest ∙ sym (rw (eq-eqb f 0 z, e, ownFrom) refl)
+
+own-read : (file : List ℕ) → readPlan file ≡ ownRead file
+unfolding ownRead
+own-read file = go (ℕ-discrete (getD file 0 0) 1)
+  where
+    go : Dec (getD file 0 0 ≡ 1) → readPlan file ≡ ownRead file
+    go (yes e) = plan-start file e ∙ own-from (suc (length file)) file 0 start (replicate 14 blankTeam) ∙ sym (rw (eq-eqb (getD file 0 0) 1 e, ownRead) refl)
+    go (no d) = plan-none file d ∙ sym (rw (ne-eqb (getD file 0 0) 1 d, ownRead) refl)
+
+-- what a set is worth to a team of the plan above its glued instruments, by its tables, and 0 to a team not in the plan
+abbrev ownWorth : Reading → ℕ → Set → ℕ
+ownWorth r t S = cond (ltb t (r .n)) (worth (ownMatroid r t) ((S ∖ glued r) ∪ gluedTo r t) - size (r .m) (gluedTo r t)) 0
+
+-- it is what the team's valuation says
+own-worth : (file : List ℕ) (t : ℕ) → worth (teamMatroid (readPlan file) t) ≡ ownWorth (readPlan file) t
+own-worth file t = fun-ext (λ S. go S (decLt t (readPlan file .n)) (ℕ-discrete (readPlan file .refusal) 0))
+  where
+    r : Reading
+    r = readPlan file
+
+    go : (S : Set) → Dec (t < r .n) → Dec (r .refusal ≡ 0) → worth (teamMatroid r t) S ≡ ownWorth r t S
+    go S (yes l) (yes z) = let above = worth-above-glued file z t l S in let own = before-worth r t ((S ∖ glued r) ∪ gluedTo r t) in rw (ap (λ (b : Bool). cond b (worth (ownMatroid r t) ((S ∖ glued r) ∪ gluedTo r t) - size (r .m) (gluedTo r t)) 0) (lt-ltb t (r .n) l)) (omega arith)
+    go S (yes l) (no d) = let none = rest-zero file .1 d in absurd (omega arith)
+    go S (no o) _ = rw (ap (λ (b : Bool). cond b (worth (ownMatroid r t) ((S ∖ glued r) ∪ gluedTo r t) - size (r .m) (gluedTo r t)) 0) (le-ltb t (r .n) (omega arith))) (absent-any r t S (omega arith))
 
 -- ---- the cases
 
@@ -94,25 +146,38 @@ abbrev bestIn : List ℕ → ℕ
 bestIn file = best (readPlan file .n) (teamMatroid (readPlan file))
 
 -- each is computed by the team's tables
-worth-by : (file : List ℕ) (team set w : ℕ) → worth (ownMatroid (readPlan file) team) (bit set) ≡ w → worthIn file team set ≡ w
-worth-by file team set w e = ap (λ (v : Set → ℕ). v (bit set)) (own-worth (readPlan file) team) ∙ e
+abbrev shareBy : Reading → ℕ → ℕ
+shareBy r team = largest (λ C. least (presentCount r) (λ t. ownWorth r team (bundle C t))) (cuts (r .m) (presentCount r))
 
-share-by : (file : List ℕ) (team w : ℕ) → share (ownMatroid (readPlan file) team) (presentCount (readPlan file)) ≡ w → shareIn file team ≡ w
+abbrev totalBy : Reading → (ℕ → ℕ) → ℕ
+totalBy r D = sum (r .n) (λ t. ownWorth r t (bundle D t))
+
+abbrev bestBy : Reading → ℕ
+bestBy r = largest (totalBy r) (cuts (r .m) (suc (r .n)))
+
+worth-by : (file : List ℕ) (team set w : ℕ) → ownWorth (ownRead file) team (bit set) ≡ w → worthIn file team set ≡ w
+worth-by file team set w e = ap (λ (v : Set → ℕ). v (bit set)) (own-worth file team) ∙ ap (λ (r : Reading). ownWorth r team (bit set)) (own-read file) ∙ e
+
+share-by : (file : List ℕ) (team w : ℕ) → shareBy (ownRead file) team ≡ w → shareIn file team ≡ w
 unfolding share
 share-by file team w e =
     let r = readPlan file in
-    ap (λ (v : Set → ℕ). largest (λ C. least (presentCount r) (λ t. v (bundle C t))) (cuts (r .m) (presentCount r))) (own-worth r team) ∙ e
+    ap (λ (v : Set → ℕ). largest (λ C. least (presentCount r) (λ t. v (bundle C t))) (cuts (r .m) (presentCount r))) (own-worth file team) ∙ ap (λ (r : Reading). shareBy r team) (own-read file) ∙ e
 
-total-by : (file : List ℕ) (D : ℕ → ℕ) → total (readPlan file .n) (teamMatroid (readPlan file)) D ≡ total (readPlan file .n) (ownMatroid (readPlan file)) D
+total-by : (file : List ℕ) (D : ℕ → ℕ) → total (readPlan file .n) (teamMatroid (readPlan file)) D ≡ totalBy (readPlan file) D
 total-by file D =
     let r = readPlan file in
-    ap (λ (v : ℕ → Set → ℕ). sum (r .n) (λ t. v t (bundle D t))) (fun-ext (own-worth r))
+    ap (λ (v : ℕ → Set → ℕ). sum (r .n) (λ t. v t (bundle D t))) (fun-ext (own-worth file))
 
-best-by : (file : List ℕ) (w : ℕ) → best (readPlan file .n) (ownMatroid (readPlan file)) ≡ w → bestIn file ≡ w
+best-by : (file : List ℕ) (w : ℕ) → bestBy (ownRead file) ≡ w → bestIn file ≡ w
 unfolding best
 best-by file w e =
     let r = readPlan file in
-    ap (λ (f : (ℕ → ℕ) → ℕ). largest f (cuts (r .m) (suc (r .n)))) (fun-ext (total-by file)) ∙ e
+    ap (λ (f : (ℕ → ℕ) → ℕ). largest f (cuts (r .m) (suc (r .n)))) (fun-ext (total-by file)) ∙ ap bestBy (own-read file) ∙ e
+
+-- a part of the reading
+read-by : {X : Type 0} (file : List ℕ) (f : Reading → X) (x : X) → f (ownRead file) ≡ x → f (readPlan file) ≡ x
+read-by file f x e = ap f (own-read file) ∙ e
 
 -- plan A
 abbrev planA : List ℕ
@@ -120,23 +185,23 @@ planA = 1 ∷ 1 ∷ 2 ∷ 3 ∷ 2 ∷ 6 ∷ 0 ∷ 1 ∷ 2 ∷ 6 ∷ 1 ∷ 1 ∷ 
 
 -- team 0: {0,1} is worth 1; team 1: {0} is worth 0; shares 1 and 0; best total 2
 planA-worth-0 : worthIn planA 0 3 ≡ 1
-unfolding worth bit readPlan readFrom commandAt fault changedTeam changedState decLe graphic within?
+unfolding worth bit ownRead ownFrom ownEnd commandAt fault changedTeam changedState decLe partition graphic within?
 planA-worth-0 = worth-by planA 0 3 1 refl
 
 planA-worth-1 : worthIn planA 1 1 ≡ 0
-unfolding worth bit readPlan readFrom commandAt fault changedTeam changedState decLe partition within?
+unfolding worth bit ownRead ownFrom ownEnd commandAt fault changedTeam changedState decLe partition graphic within?
 planA-worth-1 = worth-by planA 1 1 0 refl
 
 planA-share-0 : shareIn planA 0 ≡ 1
-unfolding worth bit readPlan readFrom commandAt fault changedTeam changedState decLe graphic share within?
+unfolding worth bit ownRead ownFrom ownEnd commandAt fault changedTeam changedState decLe partition graphic share within?
 planA-share-0 = share-by planA 0 1 refl
 
 planA-share-1 : shareIn planA 1 ≡ 0
-unfolding worth bit readPlan readFrom commandAt fault changedTeam changedState decLe partition share within?
+unfolding worth bit ownRead ownFrom ownEnd commandAt fault changedTeam changedState decLe partition graphic share within?
 planA-share-1 = share-by planA 1 0 refl
 
 planA-best : bestIn planA ≡ 2
-unfolding worth bit readPlan readFrom commandAt fault changedTeam changedState decLe partition graphic best within?
+unfolding worth bit ownRead ownFrom ownEnd commandAt fault changedTeam changedState decLe partition graphic best within?
 planA-best = best-by planA 2 refl
 
 -- spans 1-2, 2-3, 1-3, 9 channels: all three are worth 2
@@ -144,7 +209,7 @@ abbrev triangle9 : List ℕ
 triangle9 = 1 ∷ 1 ∷ 3 ∷ 3 ∷ 9 ∷ 6 ∷ 0 ∷ 1 ∷ 2 ∷ 6 ∷ 1 ∷ 2 ∷ 3 ∷ 6 ∷ 2 ∷ 1 ∷ 3 ∷ 7 ∷ []
 
 triangle9-worth : worthIn triangle9 0 7 ≡ 2
-unfolding worth bit readPlan readFrom commandAt fault changedTeam changedState decLe graphic within?
+unfolding worth bit ownRead ownFrom ownEnd commandAt fault changedTeam changedState decLe graphic within?
 triangle9-worth = worth-by triangle9 0 7 2 refl
 
 -- with 1 channel, 1
@@ -152,7 +217,7 @@ abbrev triangle1 : List ℕ
 triangle1 = 1 ∷ 1 ∷ 3 ∷ 3 ∷ 1 ∷ 6 ∷ 0 ∷ 1 ∷ 2 ∷ 6 ∷ 1 ∷ 2 ∷ 3 ∷ 6 ∷ 2 ∷ 1 ∷ 3 ∷ 7 ∷ []
 
 triangle1-worth : worthIn triangle1 0 7 ≡ 1
-unfolding worth bit readPlan readFrom commandAt fault changedTeam changedState decLe graphic within?
+unfolding worth bit ownRead ownFrom ownEnd commandAt fault changedTeam changedState decLe graphic within?
 triangle1-worth = worth-by triangle1 0 7 1 refl
 
 -- three gauges on one pair of joints, two such teams of 9 channels: share 1
@@ -160,11 +225,11 @@ abbrev parallel : List ℕ
 parallel = 1 ∷ 1 ∷ 3 ∷ 3 ∷ 9 ∷ 6 ∷ 0 ∷ 1 ∷ 2 ∷ 6 ∷ 1 ∷ 1 ∷ 2 ∷ 6 ∷ 2 ∷ 1 ∷ 2 ∷ 3 ∷ 9 ∷ 6 ∷ 0 ∷ 1 ∷ 2 ∷ 6 ∷ 1 ∷ 1 ∷ 2 ∷ 6 ∷ 2 ∷ 1 ∷ 2 ∷ 7 ∷ []
 
 parallel-share-0 : shareIn parallel 0 ≡ 1
-unfolding worth bit readPlan readFrom commandAt fault changedTeam changedState decLe graphic share within?
+unfolding worth bit ownRead ownFrom ownEnd commandAt fault changedTeam changedState decLe graphic share within?
 parallel-share-0 = share-by parallel 0 1 refl
 
 parallel-share-1 : shareIn parallel 1 ≡ 1
-unfolding worth bit readPlan readFrom commandAt fault changedTeam changedState decLe graphic share within?
+unfolding worth bit ownRead ownFrom ownEnd commandAt fault changedTeam changedState decLe graphic share within?
 parallel-share-1 = share-by parallel 1 1 refl
 
 -- instruments 0 to 2 in a class of cap 1, 3 in another of cap 1, 4 channels, two such teams: share 1
@@ -172,11 +237,11 @@ abbrev threes : List ℕ
 threes = 1 ∷ 1 ∷ 4 ∷ 2 ∷ 4 ∷ 4 ∷ 0 ∷ 1 ∷ 4 ∷ 1 ∷ 1 ∷ 5 ∷ 0 ∷ 0 ∷ 5 ∷ 1 ∷ 0 ∷ 5 ∷ 2 ∷ 0 ∷ 5 ∷ 3 ∷ 1 ∷ 2 ∷ 4 ∷ 4 ∷ 0 ∷ 1 ∷ 4 ∷ 1 ∷ 1 ∷ 5 ∷ 0 ∷ 0 ∷ 5 ∷ 1 ∷ 0 ∷ 5 ∷ 2 ∷ 0 ∷ 5 ∷ 3 ∷ 1 ∷ 7 ∷ []
 
 threes-share-0 : shareIn threes 0 ≡ 1
-unfolding worth bit readPlan readFrom commandAt fault changedTeam changedState decLe partition share within?
+unfolding worth bit ownRead ownFrom ownEnd commandAt fault changedTeam changedState decLe partition share within?
 threes-share-0 = share-by threes 0 1 refl
 
 threes-share-1 : shareIn threes 1 ≡ 1
-unfolding worth bit readPlan readFrom commandAt fault changedTeam changedState decLe partition share within?
+unfolding worth bit ownRead ownFrom ownEnd commandAt fault changedTeam changedState decLe partition share within?
 threes-share-1 = share-by threes 1 1 refl
 
 -- m = 0: every set is worth 0, whatever bits its word has, and the share is 0; of a CAPS team
@@ -184,15 +249,15 @@ abbrev noneCaps : List ℕ
 noneCaps = 1 ∷ 1 ∷ 0 ∷ 2 ∷ 9 ∷ 7 ∷ []
 
 noneCaps-worth-none : worthIn noneCaps 0 0 ≡ 0
-unfolding worth bit readPlan readFrom commandAt fault changedTeam changedState decLe partition within?
+unfolding worth bit ownRead ownFrom ownEnd commandAt fault changedTeam changedState decLe partition within?
 noneCaps-worth-none = worth-by noneCaps 0 0 0 refl
 
 noneCaps-worth-all : worthIn noneCaps 0 18446744073709551615 ≡ 0
-unfolding worth bit readPlan readFrom commandAt fault changedTeam changedState decLe partition within?
+unfolding worth bit ownRead ownFrom ownEnd commandAt fault changedTeam changedState decLe partition within?
 noneCaps-worth-all = worth-by noneCaps 0 18446744073709551615 0 refl
 
 noneCaps-share : shareIn noneCaps 0 ≡ 0
-unfolding worth bit readPlan readFrom commandAt fault changedTeam changedState decLe partition share within?
+unfolding worth bit ownRead ownFrom ownEnd commandAt fault changedTeam changedState decLe partition share within?
 noneCaps-share = share-by noneCaps 0 0 refl
 
 -- and of a LOOPS team
@@ -200,15 +265,15 @@ abbrev noneLoops : List ℕ
 noneLoops = 1 ∷ 1 ∷ 0 ∷ 3 ∷ 9 ∷ 7 ∷ []
 
 noneLoops-worth-none : worthIn noneLoops 0 0 ≡ 0
-unfolding worth bit readPlan readFrom commandAt fault changedTeam changedState decLe graphic within?
+unfolding worth bit ownRead ownFrom ownEnd commandAt fault changedTeam changedState decLe graphic within?
 noneLoops-worth-none = worth-by noneLoops 0 0 0 refl
 
 noneLoops-worth-all : worthIn noneLoops 0 18446744073709551615 ≡ 0
-unfolding worth bit readPlan readFrom commandAt fault changedTeam changedState decLe graphic within?
+unfolding worth bit ownRead ownFrom ownEnd commandAt fault changedTeam changedState decLe graphic within?
 noneLoops-worth-all = worth-by noneLoops 0 18446744073709551615 0 refl
 
 noneLoops-share : shareIn noneLoops 0 ≡ 0
-unfolding worth bit readPlan readFrom commandAt fault changedTeam changedState decLe graphic share within?
+unfolding worth bit ownRead ownFrom ownEnd commandAt fault changedTeam changedState decLe graphic share within?
 noneLoops-share = share-by noneLoops 0 0 refl
 
 -- 0 and 1 in classes 0 and 1, 2 and 3 in class 2, all caps 1, 2 channels: 2 for 0 and 3 for 1 each work alone, yet {2,3} does not stand
@@ -216,19 +281,19 @@ abbrev trap : List ℕ
 trap = 1 ∷ 1 ∷ 4 ∷ 2 ∷ 2 ∷ 4 ∷ 0 ∷ 1 ∷ 4 ∷ 1 ∷ 1 ∷ 4 ∷ 2 ∷ 1 ∷ 5 ∷ 0 ∷ 0 ∷ 5 ∷ 1 ∷ 1 ∷ 5 ∷ 2 ∷ 2 ∷ 5 ∷ 3 ∷ 2 ∷ 7 ∷ []
 
 trap-whole : worthIn trap 0 3 ≡ 2
-unfolding worth bit readPlan readFrom commandAt fault changedTeam changedState decLe partition within?
+unfolding worth bit ownRead ownFrom ownEnd commandAt fault changedTeam changedState decLe partition within?
 trap-whole = worth-by trap 0 3 2 refl
 
 trap-first : worthIn trap 0 6 ≡ 2
-unfolding worth bit readPlan readFrom commandAt fault changedTeam changedState decLe partition within?
+unfolding worth bit ownRead ownFrom ownEnd commandAt fault changedTeam changedState decLe partition within?
 trap-first = worth-by trap 0 6 2 refl
 
 trap-second : worthIn trap 0 9 ≡ 2
-unfolding worth bit readPlan readFrom commandAt fault changedTeam changedState decLe partition within?
+unfolding worth bit ownRead ownFrom ownEnd commandAt fault changedTeam changedState decLe partition within?
 trap-second = worth-by trap 0 9 2 refl
 
 trap-both : worthIn trap 0 12 ≡ 1
-unfolding worth bit readPlan readFrom commandAt fault changedTeam changedState decLe partition within?
+unfolding worth bit ownRead ownFrom ownEnd commandAt fault changedTeam changedState decLe partition within?
 trap-both = worth-by trap 0 12 1 refl
 
 -- a team that takes both instruments, and one that is away: its share is 2, where among two it would be 1
@@ -236,7 +301,7 @@ abbrev leave : List ℕ
 leave = 1 ∷ 1 ∷ 2 ∷ 2 ∷ 2 ∷ 4 ∷ 0 ∷ 2 ∷ 5 ∷ 0 ∷ 0 ∷ 5 ∷ 1 ∷ 0 ∷ 2 ∷ 0 ∷ 7 ∷ []
 
 leave-share : shareIn leave 0 ≡ 2
-unfolding worth bit readPlan readFrom commandAt fault changedTeam changedState decLe partition share within?
+unfolding worth bit ownRead ownFrom ownEnd commandAt fault changedTeam changedState decLe partition share within?
 leave-share = share-by leave 0 2 refl
 
 -- a team with channels is present, though it has named no instrument and every set is worth 0 to it
@@ -244,7 +309,7 @@ abbrev worthless : List ℕ
 worthless = 1 ∷ 1 ∷ 2 ∷ 2 ∷ 2 ∷ 4 ∷ 0 ∷ 2 ∷ 5 ∷ 0 ∷ 0 ∷ 5 ∷ 1 ∷ 0 ∷ 2 ∷ 1 ∷ 7 ∷ []
 
 worthless-share : shareIn worthless 0 ≡ 1
-unfolding worth bit readPlan readFrom commandAt fault changedTeam changedState decLe partition share within?
+unfolding worth bit ownRead ownFrom ownEnd commandAt fault changedTeam changedState decLe partition share within?
 worthless-share = share-by worthless 0 1 refl
 
 -- ---- loan days
@@ -252,12 +317,12 @@ worthless-share = share-by worthless 0 1 refl
 -- "An instrument can be in a team's independent set only if the team's days lie within its shelf days."
 in-days : (r : Reading) (t : ℕ) (S : Set) → t < r .n → teamMatroid r t .Indep S → (i : ℕ) → i < r .m → T (S i) → T (within (getD (r .days) t always) (getD (r .shelf) i always))
 in-days r t S l indep i b s =
-    let own = word (r .m) (usable r t) in
-    let v : Valuation = record { team = getD (r .teams) t blankTeam; usable = own; glued = 0 } in
+    let own = word (r .m) (usable r t ∖ glued r) in
+    let v : Valuation = record { team = getD (r .teams) t blankTeam; usable = own; glued = word (r .m) (gluedTo r t) } in
     let here : matroidOf (r .m) v .Indep S = rw (lt-ltb t (r .n) l) at indep in
-    let restricted : restrict (contracted (kindMatroid (r .m) (v .team)) (bit 0)) (bit own) .Indep S = rw (matroid-of (r .m) v) at here in
+    let restricted : restrict (contracted (kindMatroid (r .m) (v .team)) (bit (v .glued))) (bit own) .Indep S = rw (matroid-of (r .m) v) at here in
     let there = restricted .1 .at i b s in
-    and-right (ltb i (r .m)) (usable r t i) (rw (bit-word (r .m) (usable r t) i) at there)
+    and-left (usable r t i) (not (glued r i)) (and-right (ltb i (r .m)) ((usable r t ∖ glued r) i) (rw (bit-word (r .m) (usable r t ∖ glued r) i) at there))
 
 -- one instrument, with a SHELF from a day below 256 to another, and a CAPS team that takes it, with such DAYS
 abbrev lent : (from to from′ to′ : ℕ) → List ℕ
@@ -265,15 +330,15 @@ lent from to from′ to′ = 1 ∷ 1 ∷ 1 ∷ 10 ∷ 0 ∷ from ∷ 0 ∷ to �
 
 -- equal ends are within; one day before them or after them is not
 lent-equal : worthIn (lent 5 9 5 9) 0 1 ≡ 1
-unfolding worth bit readPlan readFrom commandAt fault changedTeam changedState decLe partition within?
+unfolding worth bit ownRead ownFrom ownEnd commandAt fault changedTeam changedState decLe partition within?
 lent-equal = worth-by (lent 5 9 5 9) 0 1 1 refl
 
 lent-early : worthIn (lent 5 9 4 9) 0 1 ≡ 0
-unfolding worth bit readPlan readFrom commandAt fault changedTeam changedState decLe partition within?
+unfolding worth bit ownRead ownFrom ownEnd commandAt fault changedTeam changedState decLe partition within?
 lent-early = worth-by (lent 5 9 4 9) 0 1 0 refl
 
 lent-late : worthIn (lent 5 9 5 10) 0 1 ≡ 0
-unfolding worth bit readPlan readFrom commandAt fault changedTeam changedState decLe partition within?
+unfolding worth bit ownRead ownFrom ownEnd commandAt fault changedTeam changedState decLe partition within?
 lent-late = worth-by (lent 5 9 5 10) 0 1 0 refl
 
 -- a team without DAYS, and a SHELF from day 0 to 65,280 and some days
@@ -282,11 +347,11 @@ undated to = 1 ∷ 1 ∷ 1 ∷ 10 ∷ 0 ∷ 0 ∷ 0 ∷ to ∷ 255 ∷ 2 ∷ 1 �
 
 -- to 65,534 it is worthless to the team, to 65,535 usable
 undated-short : worthIn (undated 254) 0 1 ≡ 0
-unfolding worth bit readPlan readFrom commandAt fault changedTeam changedState decLe partition within?
+unfolding worth bit ownRead ownFrom ownEnd commandAt fault changedTeam changedState decLe partition within?
 undated-short = worth-by (undated 254) 0 1 0 refl
 
 undated-whole : worthIn (undated 255) 0 1 ≡ 1
-unfolding worth bit readPlan readFrom commandAt fault changedTeam changedState decLe partition within?
+unfolding worth bit ownRead ownFrom ownEnd commandAt fault changedTeam changedState decLe partition within?
 undated-whole = worth-by (undated 255) 0 1 1 refl
 
 -- a from that is its to is 17, at the offset of the command
@@ -306,11 +371,11 @@ spanned a b = 1 ∷ 1 ∷ 1 ∷ 3 ∷ 9 ∷ 6 ∷ 0 ∷ a ∷ b ∷ 7 ∷ []
 
 -- 27 is a joint, first and second
 joint-27-first : worthIn (spanned 39 0) 0 1 ≡ 1
-unfolding worth bit readPlan readFrom commandAt fault changedTeam changedState decLe graphic within?
+unfolding worth bit ownRead ownFrom ownEnd commandAt fault changedTeam changedState decLe graphic within?
 joint-27-first = worth-by (spanned 39 0) 0 1 1 refl
 
 joint-27-second : worthIn (spanned 0 39) 0 1 ≡ 1
-unfolding worth bit readPlan readFrom commandAt fault changedTeam changedState decLe graphic within?
+unfolding worth bit ownRead ownFrom ownEnd commandAt fault changedTeam changedState decLe graphic within?
 joint-27-second = worth-by (spanned 0 39) 0 1 1 refl
 
 -- 28 is 5 at the offset of the command, first and second, and so is 3F
@@ -325,6 +390,60 @@ joint-28-second = (refl, refl)
 joint-3F : (readPlan (spanned 63 0) .refusal ≡ 5) × (readPlan (spanned 0 63) .refusal ≡ 5)
 unfolding readPlan readFrom commandAt fault changedTeam changedState
 joint-3F = (refl, refl)
+
+-- ---- document 02, note 6: glued gauges
+
+-- the triangle of spans with gauge 0 glued: the two others would close a loop with it, so they are worth 1 where they were worth 2, and the bit of
+-- the glued one counts nothing
+abbrev gluedTriangle : List ℕ
+gluedTriangle = 1 ∷ 1 ∷ 3 ∷ 3 ∷ 9 ∷ 12 ∷ 0 ∷ 6 ∷ 0 ∷ 1 ∷ 2 ∷ 6 ∷ 1 ∷ 2 ∷ 3 ∷ 6 ∷ 2 ∷ 1 ∷ 3 ∷ 7 ∷ []
+
+glued-triangle : (worthIn gluedTriangle 0 6 ≡ 1) × (worthIn gluedTriangle 0 7 ≡ 1) × (worthIn gluedTriangle 0 1 ≡ 0)
+unfolding worth bit ownRead ownFrom ownEnd commandAt fault changedTeam changedState decLe graphic within?
+glued-triangle = (worth-by gluedTriangle 0 6 1 refl, worth-by gluedTriangle 0 7 1 refl, worth-by gluedTriangle 0 1 0 refl)
+
+-- two instruments in a class of cap 1, and so in another team: the one that is glued to team 0 uses up its cap, and is worthless to team 1
+abbrev gluedCaps : List ℕ
+gluedCaps = 1 ∷ 1 ∷ 2 ∷ 2 ∷ 9 ∷ 4 ∷ 0 ∷ 1 ∷ 5 ∷ 0 ∷ 0 ∷ 5 ∷ 1 ∷ 0 ∷ 12 ∷ 0 ∷ 2 ∷ 9 ∷ 4 ∷ 0 ∷ 1 ∷ 5 ∷ 0 ∷ 0 ∷ 5 ∷ 1 ∷ 0 ∷ 7 ∷ []
+
+glued-caps : (worthIn gluedCaps 0 2 ≡ 0) × (worthIn gluedCaps 1 1 ≡ 0) × (worthIn gluedCaps 1 2 ≡ 1) × (bestIn gluedCaps ≡ 1) × (shareIn gluedCaps 1 ≡ 0)
+unfolding worth bit ownRead ownFrom ownEnd commandAt fault changedTeam changedState decLe partition within? best share
+glued-caps = (worth-by gluedCaps 0 2 0 refl, worth-by gluedCaps 1 1 0 refl, worth-by gluedCaps 1 2 1 refl, best-by gluedCaps 1 refl, share-by gluedCaps 1 0 refl)
+
+-- one instrument that a CAPS team of some channels glues, with its PUT or with none, and the rest of the plan
+abbrev gluing : (channels : ℕ) (rest : List ℕ) → List ℕ
+gluing channels rest = 1 ∷ 1 ∷ 1 ∷ 2 ∷ channels ∷ 4 ∷ 0 ∷ 1 ∷ 12 ∷ 0 ∷ rest
+
+-- with its PUT it stands
+glued-put : readPlan (gluing 1 (5 ∷ 0 ∷ 0 ∷ 7 ∷ [])) .refusal ≡ 0
+unfolding ownRead ownFrom ownEnd commandAt fault changedTeam changedState worth bit decLe partition within?
+glued-put = read-by (gluing 1 (5 ∷ 0 ∷ 0 ∷ 7 ∷ [])) (λ r. r .refusal) 0 refl
+
+-- with none, or without channels, it is 18 at the offset of END, also where bytes follow
+glued-unnamed : (readPlan (gluing 1 (7 ∷ 0 ∷ [])) .refusal ≡ 18) × (readPlan (gluing 1 (7 ∷ 0 ∷ [])) .place ≡ 10)
+unfolding ownRead ownFrom ownEnd commandAt fault changedTeam changedState worth bit decLe partition within?
+glued-unnamed = (read-by (gluing 1 (7 ∷ 0 ∷ [])) (λ r. r .refusal) 18 refl, read-by (gluing 1 (7 ∷ 0 ∷ [])) (λ r. r .place) 10 refl)
+
+glued-away : (readPlan (gluing 0 (5 ∷ 0 ∷ 0 ∷ 7 ∷ [])) .refusal ≡ 18) × (readPlan (gluing 0 (5 ∷ 0 ∷ 0 ∷ 7 ∷ [])) .place ≡ 13)
+unfolding ownRead ownFrom ownEnd commandAt fault changedTeam changedState worth bit decLe partition within?
+glued-away = (read-by (gluing 0 (5 ∷ 0 ∷ 0 ∷ 7 ∷ [])) (λ r. r .refusal) 18 refl, read-by (gluing 0 (5 ∷ 0 ∷ 0 ∷ 7 ∷ [])) (λ r. r .place) 13 refl)
+
+-- a second time, in the next team, it is 6 at the offset of the command; before any team it is 4; an instrument not below m is 5; 0D is 3
+glued-twice : (readPlan (gluing 1 (2 ∷ 1 ∷ 12 ∷ 0 ∷ 7 ∷ [])) .refusal ≡ 6) × (readPlan (gluing 1 (2 ∷ 1 ∷ 12 ∷ 0 ∷ 7 ∷ [])) .place ≡ 12)
+unfolding readPlan readFrom commandAt fault changedTeam changedState
+glued-twice = (refl, refl)
+
+glued-early : readPlan (1 ∷ 1 ∷ 1 ∷ 12 ∷ 0 ∷ 2 ∷ 1 ∷ 7 ∷ []) .refusal ≡ 4
+unfolding readPlan readFrom commandAt fault changedTeam changedState
+glued-early = refl
+
+glued-beyond : readPlan (1 ∷ 1 ∷ 1 ∷ 2 ∷ 1 ∷ 12 ∷ 1 ∷ 7 ∷ []) .refusal ≡ 5
+unfolding readPlan readFrom commandAt fault changedTeam changedState
+glued-beyond = refl
+
+unknown-0D : readPlan (1 ∷ 1 ∷ 1 ∷ 2 ∷ 1 ∷ 13 ∷ 0 ∷ 7 ∷ []) .refusal ≡ 3
+unfolding readPlan readFrom commandAt fault changedTeam changedState
+unknown-0D = refl
 
 -- ---- sets that are no words
 
@@ -360,96 +479,96 @@ abbrev pub appendixD : List ℕ
 appendixD = 1 ∷ 1 ∷ 6 ∷ 2 ∷ 6 ∷ 4 ∷ 0 ∷ 1 ∷ 4 ∷ 1 ∷ 1 ∷ 4 ∷ 2 ∷ 2 ∷ 5 ∷ 0 ∷ 0 ∷ 5 ∷ 1 ∷ 0 ∷ 5 ∷ 2 ∷ 1 ∷ 5 ∷ 3 ∷ 1 ∷ 5 ∷ 4 ∷ 2 ∷ 5 ∷ 5 ∷ 2 ∷ 2 ∷ 6 ∷ 4 ∷ 0 ∷ 6 ∷ 5 ∷ 0 ∷ 0 ∷ 5 ∷ 1 ∷ 0 ∷ 5 ∷ 2 ∷ 0 ∷ 5 ∷ 3 ∷ 0 ∷ 5 ∷ 4 ∷ 0 ∷ 5 ∷ 5 ∷ 0 ∷ 7 ∷ []
 
 appendixD-share-0 : shareIn appendixD 0 ≡ 3
-unfolding worth bit readPlan readFrom commandAt fault changedTeam changedState decLe partition share within?
+unfolding worth bit ownRead ownFrom ownEnd commandAt fault changedTeam changedState decLe partition share within?
 appendixD-share-0 = share-by appendixD 0 3 refl
 
 appendixD-share-1 : shareIn appendixD 1 ≡ 3
-unfolding worth bit readPlan readFrom commandAt fault changedTeam changedState decLe partition share within?
+unfolding worth bit ownRead ownFrom ownEnd commandAt fault changedTeam changedState decLe partition share within?
 appendixD-share-1 = share-by appendixD 1 3 refl
 
 appendixD-best : bestIn appendixD ≡ 6
-unfolding worth bit readPlan readFrom commandAt fault changedTeam changedState decLe partition best within?
+unfolding worth bit ownRead ownFrom ownEnd commandAt fault changedTeam changedState decLe partition best within?
 appendixD-best = best-by appendixD 6 refl
 
 -- giving {4,5} and {0,1,2,3} has total 6
 abbrev greedyD : ℕ → ℕ
 greedyD g = cond (ltb g 4) 1 0
 
-appendixD-total : total 2 (teamMatroid (readPlan appendixD)) greedyD ≡ 6
-unfolding worth bit readPlan readFrom commandAt fault changedTeam changedState decLe partition within?
-appendixD-total = total-by appendixD greedyD ∙ refl
+appendixD-total : total (readPlan appendixD .n) (teamMatroid (readPlan appendixD)) greedyD ≡ 6
+unfolding worth bit ownRead ownFrom ownEnd commandAt fault changedTeam changedState decLe partition within?
+appendixD-total = total-by appendixD greedyD ∙ read-by appendixD (λ r. totalBy r greedyD) 6 refl
 
 appendixD-refusal : readPlan appendixD .refusal ≡ 0
-unfolding readPlan readFrom commandAt fault changedTeam changedState
-appendixD-refusal = refl
+unfolding ownRead ownFrom ownEnd commandAt fault changedTeam changedState worth decLe partition within? bit
+appendixD-refusal = read-by appendixD (λ r. r .refusal) 0 refl
 
 appendixD-m : readPlan appendixD .m ≡ 6
-unfolding readPlan readFrom commandAt fault changedTeam changedState
-appendixD-m = refl
+unfolding ownRead ownFrom ownEnd commandAt fault changedTeam changedState worth decLe partition within? bit
+appendixD-m = read-by appendixD (λ r. r .m) 6 refl
 
 appendixD-n : readPlan appendixD .n ≡ 2
-unfolding readPlan readFrom commandAt fault changedTeam changedState
-appendixD-n = refl
+unfolding ownRead ownFrom ownEnd commandAt fault changedTeam changedState worth decLe partition within? bit
+appendixD-n = read-by appendixD (λ r. r .n) 2 refl
 
 -- the reading, with its numbers written out
 abbrev pub appendixD-read : Reading
 appendixD-read =
     let r = readPlan appendixD in
-    record { refusal = 0; place = r .place; m = 6; n = 2; teams = r .teams; shelf = r .shelf; days = r .days }
+    record { refusal = 0; place = r .place; m = 6; n = 2; teams = r .teams; shelf = r .shelf; days = r .days; glue = r .glue }
 
 pub appendixD-is : readPlan appendixD ≡ appendixD-read
 appendixD-is =
     let r = readPlan appendixD in
-    λ j. record { refusal = appendixD-refusal j; place = r .place; m = appendixD-m j; n = appendixD-n j; teams = r .teams; shelf = r .shelf; days = r .days }
+    λ j. record { refusal = appendixD-refusal j; place = r .place; m = appendixD-m j; n = appendixD-n j; teams = r .teams; shelf = r .shelf; days = r .days; glue = r .glue }
 
 -- both teams are present
 pub appendixD-present : (present (readPlan appendixD) 0 ≡ true) × (present (readPlan appendixD) 1 ≡ true)
-unfolding readPlan readFrom commandAt fault changedTeam changedState
-appendixD-present = (refl, refl)
+unfolding ownRead ownFrom ownEnd commandAt fault changedTeam changedState worth decLe partition within? bit
+appendixD-present = (read-by appendixD (λ r. present r 0) true refl, read-by appendixD (λ r. present r 1) true refl)
 
 -- what the sets of the sheet below are worth to the two teams
 pub appendixD-0-none : worthIn appendixD 0 0 ≡ 0
-unfolding worth bit readPlan readFrom commandAt fault changedTeam changedState decLe partition within?
+unfolding worth bit ownRead ownFrom ownEnd commandAt fault changedTeam changedState decLe partition within?
 appendixD-0-none = worth-by appendixD 0 0 0 refl
 
 pub appendixD-0-rest : worthIn appendixD 0 15 ≡ 2
-unfolding worth bit readPlan readFrom commandAt fault changedTeam changedState decLe partition within?
+unfolding worth bit ownRead ownFrom ownEnd commandAt fault changedTeam changedState decLe partition within?
 appendixD-0-rest = worth-by appendixD 0 15 2 refl
 
 pub appendixD-0-bundle : worthIn appendixD 0 48 ≡ 2
-unfolding worth bit readPlan readFrom commandAt fault changedTeam changedState decLe partition within?
+unfolding worth bit ownRead ownFrom ownEnd commandAt fault changedTeam changedState decLe partition within?
 appendixD-0-bundle = worth-by appendixD 0 48 2 refl
 
 pub appendixD-0-part-0 : worthIn appendixD 0 21 ≡ 3
-unfolding worth bit readPlan readFrom commandAt fault changedTeam changedState decLe partition within?
+unfolding worth bit ownRead ownFrom ownEnd commandAt fault changedTeam changedState decLe partition within?
 appendixD-0-part-0 = worth-by appendixD 0 21 3 refl
 
 pub appendixD-0-part-1 : worthIn appendixD 0 42 ≡ 3
-unfolding worth bit readPlan readFrom commandAt fault changedTeam changedState decLe partition within?
+unfolding worth bit ownRead ownFrom ownEnd commandAt fault changedTeam changedState decLe partition within?
 appendixD-0-part-1 = worth-by appendixD 0 42 3 refl
 
 pub appendixD-0-all : worthIn appendixD 0 63 ≡ 4
-unfolding worth bit readPlan readFrom commandAt fault changedTeam changedState decLe partition within?
+unfolding worth bit ownRead ownFrom ownEnd commandAt fault changedTeam changedState decLe partition within?
 appendixD-0-all = worth-by appendixD 0 63 4 refl
 
 pub appendixD-1-none : worthIn appendixD 1 0 ≡ 0
-unfolding worth bit readPlan readFrom commandAt fault changedTeam changedState decLe partition within?
+unfolding worth bit ownRead ownFrom ownEnd commandAt fault changedTeam changedState decLe partition within?
 appendixD-1-none = worth-by appendixD 1 0 0 refl
 
 pub appendixD-1-bundle : worthIn appendixD 1 15 ≡ 4
-unfolding worth bit readPlan readFrom commandAt fault changedTeam changedState decLe partition within?
+unfolding worth bit ownRead ownFrom ownEnd commandAt fault changedTeam changedState decLe partition within?
 appendixD-1-bundle = worth-by appendixD 1 15 4 refl
 
 pub appendixD-1-part-0 : worthIn appendixD 1 7 ≡ 3
-unfolding worth bit readPlan readFrom commandAt fault changedTeam changedState decLe partition within?
+unfolding worth bit ownRead ownFrom ownEnd commandAt fault changedTeam changedState decLe partition within?
 appendixD-1-part-0 = worth-by appendixD 1 7 3 refl
 
 pub appendixD-1-part-1 : worthIn appendixD 1 56 ≡ 3
-unfolding worth bit readPlan readFrom commandAt fault changedTeam changedState decLe partition within?
+unfolding worth bit ownRead ownFrom ownEnd commandAt fault changedTeam changedState decLe partition within?
 appendixD-1-part-1 = worth-by appendixD 1 56 3 refl
 
 pub appendixD-1-all : worthIn appendixD 1 63 ≡ 6
-unfolding worth bit readPlan readFrom commandAt fault changedTeam changedState decLe partition within?
+unfolding worth bit ownRead ownFrom ownEnd commandAt fault changedTeam changedState decLe partition within?
 appendixD-1-all = worth-by appendixD 1 63 6 refl
 
 -- the sheet of that division: total 6 with the bound of no instruments; share 3 with {0,1,2,3} and parts {0,2,4} and {1,3,5}; share 3 with no

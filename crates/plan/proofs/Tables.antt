@@ -105,7 +105,7 @@ opened-kept m kind channels cap k = record {
 
 module _ (m : ℕ) (team : Team) (kept : ValidTeam m team) where
   -- a class is capped
-  pub class-kept : (class cap : ℕ) → ValidTeam m (changedTeam team (Class class cap))
+  pub class-kept : (class cap : ℕ) → ValidTeam m (changedTeam 0 team (Class class cap))
   unfolding changedTeam
   class-kept class most = record {
     cap-long = length-set (team .cap) class most ∙ kept .cap-long;
@@ -120,7 +120,7 @@ module _ (m : ℕ) (team : Team) (kept : ValidTeam m team) where
   }
 
   -- the days are said
-  pub days-kept : (a b c d : ℕ) → ValidTeam m (changedTeam team (Days a b c d))
+  pub days-kept : (a b c d : ℕ) → ValidTeam m (changedTeam 0 team (Days a b c d))
   unfolding changedTeam
   days-kept a b c d = record {
     cap-long = kept .cap-long;

@@ -1,5 +1,5 @@
 -- The loop of `valuations_of`, and the matroids of the valuations.
-use Prim.Native.Nat.{ℕ, _≤_, _<_}
+use Prim.Native.Nat.{ℕ, _^_, _≤_, _<_}
 use mathlib.Core.Path.{_≡_, refl, sym, ap, ap₂, _∙_}
 use mathlib.Core.Bool.{Bool, false, cond}
 use mathlib.Core.List.{List, [], _∷_}
@@ -8,8 +8,9 @@ use native.Mathlib.Decide.{decLt}
 use lib.Dec.{ltb}
 use lib.ListN.{length, getD, List·getD-eq-default}
 use borrow.Author.Tests.{lt-ltb, le-ltb}
+use Rattle.matroid.specs.Set.{_∖_}
 use Rattle.matroid.specs.Cuts.{each}
-use Rattle.sets.specs.Bits.{word}
+use Rattle.sets.specs.Bits.{bit, word}
 use Rattle.sets.proofs.Lists.{getD-any}
 use Rattle.team.specs.declared.Team.{Team}
 use Rattle.team.specs.Team.{blankTeam}
@@ -19,8 +20,9 @@ use Rattle.days.proofs.Holding.{undated}
 use Rattle.kinds.specs.declared.Valuation.{Valuation}
 use Rattle.kinds.specs.Valuations.{matroidOf, blankValuation, matroids}
 use Rattle.plan.specs.declared.Reading.{Reading}
-use Rattle.plan.specs.Teams.{usable, usableWords, valuationOf, valuationsOf, teamMatroid}
+use Rattle.plan.specs.Teams.{usable, usableWords, glued, gluedTo, valuationOf, valuationsOf, teamMatroid}
 use Rattle.plan.specs.Valid.{Valid}
+use Rattle.plan.proofs.Gluing.{word-minus}
 use Rattle.plan.proofs.Each.{each-length, each-at, Tabled, tabled-all}
 
 -- the word of a team's usable instruments, by its days as the code has them, and where it has none by those of every day
@@ -31,18 +33,26 @@ module _ (shelf : List Days) (m : ℕ) (days : List Days) (t : ℕ) (own d : Day
   pub word-every : (w : ℕ) (every : Days) → w ≡ word m (usableOn shelf every) → every ≡ always → dated own ≡ false → w ≡ word m (usableOn shelf (getD days t always))
   word-every w every e is none = word-own w (e ∙ ap (λ (x : Days). word m (usableOn shelf x)) (is ∙ sym (undated own none)))
 
+-- the word of a team of the plan in the table of these words
+pub word-at : (r : Reading) (t : ℕ) (words : List ℕ) → r .n ≤ 12 → t < r .n → words ≡ usableWords (r .shelf) (r .m) (r .days) (r .n) → getD words t 0 ≡ word (r .m) (usable r t)
+word-at r t words few l is =
+    ap (λ (x : List ℕ). getD x t 0) is ∙ each-at (λ t. cond (ltb t (r .n)) (word (r .m) (usable r t)) 0) 0 12 t (omega arith) ∙ ap (λ (b : Bool). cond b (word (r .m) (usable r t)) 0) (lt-ltb t (r .n) l)
+
 -- the valuation of a team of the plan
 abbrev pub valuedAt : Reading → ℕ → Valuation
-valuedAt r t = record { team = getD (r .teams) t blankTeam; usable = word (r .m) (usable r t); glued = 0 }
+valuedAt r t = record { team = getD (r .teams) t blankTeam; usable = word (r .m) (usable r t ∖ glued r); glued = word (r .m) (gluedTo r t) }
 
--- as the code has it, by the team and the word of its usable instruments
-pub valued-at : (r : Reading) → Valid r → (t : ℕ) → t < r .n → (team d : Team) (words : List ℕ) → team ≡ getD (r .teams) t d → words ≡ usableWords (r .shelf) (r .m) (r .days) (r .n)
-    → record { team = team; usable = getD words t 0; glued = 0 } ≡ valuedAt r t
-valued-at r valid t l team d words is-team is-words =
+-- as the code has it, by the team, the word of its usable instruments, and the words of those glued to anyone and to it
+pub valued-at : (r : Reading) → Valid r → (t : ℕ) → t < r .n → (team d : Team) (words : List ℕ) (all own stuck : ℕ) → team ≡ getD (r .teams) t d
+    → words ≡ usableWords (r .shelf) (r .m) (r .days) (r .n) → all ≡ word (r .m) (glued r) → own < 2 ^ 64 → ((j : ℕ) → bit own j ≡ (bit (getD words t 0) ∖ bit all) j) → stuck ≡ word (r .m) (gluedTo r t)
+    → record { team = team; usable = own; glued = stuck } ≡ valuedAt r t
+valued-at r valid t l team d words all own stuck is-team is-words is-all fits is-own is-stuck =
     let few = valid .few in
     let teams-long = valid .teams-long in
-    let own = ap (λ (x : List ℕ). getD x t 0) is-words ∙ each-at (λ t. cond (ltb t (r .n)) (word (r .m) (usable r t)) 0) 0 12 t (omega arith) ∙ ap (λ (b : Bool). cond b (word (r .m) (usable r t)) 0) (lt-ltb t (r .n) l) in
-    ap₂ (λ (x : Team) (y : ℕ). record { team = x; usable = y; glued = 0 }) (is-team ∙ getD-any (r .teams) t d blankTeam (omega arith)) own
+    let here = word-at r t words few l is-words in
+    let free : own ≡ word (r .m) (usable r t ∖ glued r) = word-minus (r .m) (usable r t) (glued r) own (valid .small) fits (λ j. is-own j ∙ ap₂ (λ (x y : ℕ). (bit x ∖ bit y) j) here is-all) in
+    let same = is-team ∙ getD-any (r .teams) t d blankTeam (omega arith) in
+    λ j. record { team = same j; usable = free j; glued = is-stuck j }
 
 -- the table that the loop has filled
 pub valued-all : (r : Reading) (row : List Valuation) → Tabled 12 (valuedAt r) blankValuation (r .n) row → row ≡ valuationsOf r

@@ -1,4 +1,5 @@
-// The plan file: commands of one byte with operands of one byte, read into the pool's shelf days and twelve teams with their days.
+// The plan file: commands of one byte with operands of one byte, read into the pool's shelf days, twelve teams with their days, and the
+// instruments that are glued to them.
 ghost use mathlib.Core.Path.{_≡_};
 ghost use Prim.Native.Nat.{_≤_};
 ghost use lib.ListN.{length, getD};
@@ -17,6 +18,7 @@ use kinds::Valuation;
 use step::Progress;
 use team::Team;
 
+mod glue;
 mod parts;
 mod step;
 mod usable;
@@ -32,6 +34,8 @@ pub struct Reading {
     pub shelf: [Days; 64],
     // the days of each team
     pub days: [Days; 12],
+    // the team that each instrument is glued to: t + 1 for team t, 255 for none
+    pub glue: [u8; 64],
 }
 
 // The answer to a file that is refused.
@@ -58,17 +62,19 @@ fn refuse(refusal: usize, place: usize) -> Reading
         teams: [zero; 12],
         shelf: [none; 64],
         days: [none; 12],
+        glue: [0u8; 64],
     }
 }
 
 // The answer to a file that is accepted, by the table of rows.
 fn accept(s: State, rows: &[u8]) -> Reading
-    requires { ⌜ (length (now rows) ≡ 4459) × (s .n ≤ 12) × (s .m ≤ 64) ⌝ }
+    requires { ⌜ (length (now rows) ≡ 4802) × (s .n ≤ 12) × (s .m ≤ 64) ⌝ }
     ensures { λ r. ⌜ r ≡ accepted s (rowsIn (now (rows .entry)) (s .n)) ⌝ }
 {
     let teams = parts::teams(rows, s.n);
     let days = parts::days(rows, s.n);
     let shelf = parts::shelf(&rows[0..row::WIDTH], s.m);
+    let glue = parts::glue(rows);
     Reading {
         refusal: 0,
         place: 0,
@@ -77,14 +83,20 @@ fn accept(s: State, rows: &[u8]) -> Reading
         teams,
         shelf,
         days,
+        glue,
     }
 }
 
 // The answer at the offset of an END that stands in its place.
 fn finish(file: &[u8], at: usize, s: State, rows: &[u8]) -> Reading
-    requires { ⌜ (length (now rows) ≡ 4459) × (s .n ≤ 12) × (s .m ≤ 64) ⌝ }
+    requires { ⌜ (length (now rows) ≡ 4802) × (s .n ≤ 12) × (s .m ≤ 64) ⌝ }
     ensures { λ r. ⌜ r ≡ finished (now (file .entry)) at s (rowsIn (now (rows .entry)) (s .n)) ⌝ }
 {
+    if glue::some(&rows[glue::GLUED..glue::GLUED + 64]) {
+        if !glue::all_stand(s, rows) {
+            return refuse(18, at);
+        }
+    }
     if at < file.len() {
         if at + 1 < file.len() {
             return refuse(9, at + 1);
@@ -96,7 +108,7 @@ fn finish(file: &[u8], at: usize, s: State, rows: &[u8]) -> Reading
 // Reads the commands of a file whose first byte is 01 into the table of rows: a reader hands out one after another, until one breaks a rule or is
 // an END in its place. It holds the reader, so it is proved by hand, and `step` does the work.
 fn read_commands(file: &[u8], rows: &mut [u8]) -> Progress
-    requires { ⌜ (getD (now file) 0 0 ≡ 1) × (length (now rows) ≡ 4459) × (rowAt (now rows) 0 ≡ blankTeam) ⌝ }
+    requires { ⌜ (getD (now file) 0 0 ≡ 1) × (length (now rows) ≡ 4802) × (rowAt (now rows) 0 ≡ blankTeam) × (rowAt (now rows) 13 ≡ blankTeam) ⌝ }
     ensures { λ r. ⌜ Ended (now (file .entry)) r (now (rows .exit)) ⌝ }
 {
     let mut reader = Reader::new(file);
@@ -125,22 +137,26 @@ pub fn read(file: &[u8]) -> Reading
     step::answer(file, p, &rows)
 }
 
-// The valuation of each team of a plan, and one of no kind beyond the last. Which instruments a team can use is found here, once.
+// The valuation of each team of a plan, and one of no kind beyond the last. Which instruments a team can use and which are glued to it is found
+// here, once.
 pub fn valuations_of(r: Reading) -> [Valuation; 12]
     requires { ⌜ Valid r ⌝ }
     ensures { λ v. ⌜ v ≡ valuationsOf r ⌝ }
 {
     let n = r.n;
-    let words = usable::words(r.shelf, r.m, r.days, n);
+    let m = r.m;
+    let words = usable::words(r.shelf, m, r.days, n);
+    let all = glue::of_all(r.glue, m);
     let none = kinds::blank();
     let mut valuations = [none; 12];
     for t in 0..n {
         let team = r.teams[t];
-        let usable = words[t];
+        let usable = sets::minus(words[t], all);
+        let glued = glue::of_team(r.glue, m, t, all);
         valuations[t] = Valuation {
             team,
             usable,
-            glued: 0,
+            glued,
         };
     }
     valuations

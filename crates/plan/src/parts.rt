@@ -1,16 +1,17 @@
-// The parts of the answer to a file that is accepted, by the table of rows: the teams, their days, and the shelf days of the instruments.
+// The parts of the answer to a file that is accepted, by the table of rows: the teams, their days, the shelf days of the instruments and the
+// teams that instruments are glued to.
 ghost use mathlib.Core.Path.{_≡_};
 ghost use Prim.Native.Nat.{_≤_};
 ghost use lib.ListN.{length};
 ghost use Rattle.row.specs.Row.{rowTeam};
 ghost use Rattle.plan.specs.Read.{teamsOf, teamDays, shelfDays};
-ghost use Rattle.plan.specs.Progress.{rowsIn};
+ghost use Rattle.plan.specs.Progress.{rowAt, rowsIn};
 use days::Days;
 use team::Team;
 
 // The teams of the first n rows after the pool's, and blank ones beyond.
 pub fn teams(rows: &[u8], n: usize) -> [Team; 12]
-    requires { ⌜ (length (now rows) ≡ 4459) × (n ≤ 12) ⌝ }
+    requires { ⌜ (length (now rows) ≡ 4802) × (n ≤ 12) ⌝ }
     ensures { λ r. ⌜ r ≡ teamsOf (rowsIn (now (rows .entry)) n) ⌝ }
 {
     let mut teams = [team::blank(); 12];
@@ -25,7 +26,7 @@ pub fn teams(rows: &[u8], n: usize) -> [Team; 12]
 
 // The days of these teams, and every day beyond.
 pub fn days(rows: &[u8], n: usize) -> [Days; 12]
-    requires { ⌜ (length (now rows) ≡ 4459) × (n ≤ 12) ⌝ }
+    requires { ⌜ (length (now rows) ≡ 4802) × (n ≤ 12) ⌝ }
     ensures { λ r. ⌜ r ≡ teamDays (rowsIn (now (rows .entry)) n) ⌝ }
 {
     let mut days = [days::always(); 12];
@@ -49,4 +50,13 @@ pub fn shelf(pool: &[u8], m: usize) -> [Days; 64]
         shelf[i] = own;
     }
     shelf
+}
+
+// The team that each instrument is glued to, by the row of the glued ones.
+pub fn glue(rows: &[u8]) -> [u8; 64]
+    requires { ⌜ length (now rows) ≡ 4802 ⌝ }
+    ensures { λ r. ⌜ r ≡ rowAt (now (rows .entry)) 13 .named ⌝ }
+{
+    let first = row::WIDTH * 13;
+    row::names(&rows[first..first + row::WIDTH])
 }

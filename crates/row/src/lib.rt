@@ -1,6 +1,7 @@
 // A team as a row of 343 bytes, so that a command changes the open team where it stands: its kind, its channels, the cap of each class, then
 // five tables over the instruments: the byte of the command that names one, and the four operands of that command after the instrument; last
-// the byte of the command that says its days and the four bytes of these. The pool has such a row too, in which SHELFs name the instruments.
+// the byte of the command that says its days and the four bytes of these. The pool has such a row too, in which SHELFs name the instruments, and so have
+// the glued instruments, where the byte is the number of the team, counted from 1.
 ghost use mathlib.Core.Path.{_≡_};
 ghost use Prim.Native.Nat.{_+_, _≤_, _<_};
 ghost use lib.ListN.{length};
@@ -97,6 +98,14 @@ fn table(row: &[u8], at: usize) -> [u8; 64]
     let mut table = [0u8; 64];
     copy(row, at, &mut table);
     table
+}
+
+// The bytes of the commands that name the instruments in a row; in the row of the glued ones, their teams.
+pub fn names(row: &[u8]) -> [u8; 64]
+    requires { ⌜ length (now row) ≡ 343 ⌝ }
+    ensures { λ r. ⌜ r ≡ rowTeam (now (row .entry)) .named ⌝ }
+{
+    table(row, NAMED)
 }
 
 // The team of a row.

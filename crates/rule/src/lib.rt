@@ -4,6 +4,7 @@
 ghost use Prim.Native.Nat.{_≤_};
 use team::Team;
 
+pub mod glue;
 mod hall;
 pub mod loan;
 

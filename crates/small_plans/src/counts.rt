@@ -2,8 +2,8 @@
 use lines::print;
 use std::num::wrapping_add_u64;
 
-// What is counted. In the first group are the plans, in the second their loan days, in the third the sheets that Build writes, in the fourth
-// sheets with one byte changed.
+// What is counted. In the first group are the plans, in the second their loan days, in the third their glued instruments, in the fourth the sheets
+// that Build writes, in the fifth sheets with one byte changed.
 pub struct Counts {
     pub plans: u64,
     // plans with a team away, and with no team present
@@ -28,6 +28,15 @@ pub struct Counts {
     // shares and totals that are not those without SHELFs
     pub lower_shares: u64,
     pub lower_totals: u64,
+
+    // plans whose glued instruments do not stand, and those of them that are not refused with 18 at the END
+    pub fallen: u64,
+    pub fallen_wrong: u64,
+    // glued instruments of the other plans
+    pub glued: u64,
+    // shares and totals that are not those without GLUEs
+    pub gained_shares: u64,
+    pub gained_totals: u64,
 
     // sheets that Check accepts
     pub accepted: u64,
@@ -74,6 +83,11 @@ pub fn none() -> Counts {
         near: 0,
         lower_shares: 0,
         lower_totals: 0,
+        fallen: 0,
+        fallen_wrong: 0,
+        glued: 0,
+        gained_shares: 0,
+        gained_totals: 0,
         accepted: 0,
         totals: 0,
         shares: 0,
@@ -112,6 +126,11 @@ pub fn plus(a: Counts, b: Counts) -> Counts {
         near: wrapping_add_u64(a.near, b.near),
         lower_shares: wrapping_add_u64(a.lower_shares, b.lower_shares),
         lower_totals: wrapping_add_u64(a.lower_totals, b.lower_totals),
+        fallen: wrapping_add_u64(a.fallen, b.fallen),
+        fallen_wrong: wrapping_add_u64(a.fallen_wrong, b.fallen_wrong),
+        glued: wrapping_add_u64(a.glued, b.glued),
+        gained_shares: wrapping_add_u64(a.gained_shares, b.gained_shares),
+        gained_totals: wrapping_add_u64(a.gained_totals, b.gained_totals),
         accepted: wrapping_add_u64(a.accepted, b.accepted),
         totals: wrapping_add_u64(a.totals, b.totals),
         shares: wrapping_add_u64(a.shares, b.shares),
@@ -173,6 +192,16 @@ pub fn show_days(c: Counts) {
     print::marked(b", within with an equal end ", c.level);
     print::marked(b"; other than without SHELF: shares ", c.lower_shares);
     print::marked(b", totals ", c.lower_totals);
+    print::text(b"\n");
+}
+
+// The glued instruments, on a line.
+pub fn show_glued(c: Counts) {
+    print::marked(b"  plans refused with 18 besides ", c.fallen);
+    print::marked(b", differences ", c.fallen_wrong);
+    print::marked(b"; glued instruments of the others ", c.glued);
+    print::marked(b"; other than without GLUE: shares ", c.gained_shares);
+    print::marked(b", totals ", c.gained_totals);
     print::text(b"\n");
 }
 

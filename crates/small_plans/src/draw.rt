@@ -31,12 +31,14 @@ struct DrawnTeam {
     x: u64,
 }
 
-// A plan, and the last number drawn for it. In the pool SHELFs name the instruments as FITs do in a MOUNTS team.
+// A plan, and the last number drawn for it. In the pool SHELFs name the instruments as FITs do in a MOUNTS team. The instruments glued to each
+// team are a set.
 pub struct Drawing {
     pub m: usize,
     pub n: usize,
     pub pool: Team,
     pub teams: [Team; 3],
+    pub glued: [u64; 3],
     pub x: u64,
 }
 
@@ -167,7 +169,7 @@ fn teams(byte: u8) -> usize
     byte as usize
 }
 
-// A plan of a family, drawn after x: up to 5 instruments and 1 to 3 teams, with no SHELF and no DAYS.
+// A plan of a family, drawn after x: up to 5 instruments and 1 to 3 teams, with no SHELF, no DAYS and no GLUE.
 pub fn drawn(f: Family, x: u64) -> Drawing
     ensures { λ r. ⌜ (r .m ≤ 5) × (1 ≤ r .n) × (r .n ≤ 3) ⌝ }
 {
@@ -187,6 +189,7 @@ pub fn drawn(f: Family, x: u64) -> Drawing
         n: teams(pick(z, sizes)),
         pool: team::blank(),
         teams: list,
+        glued: [0u64; 3],
         x: z,
     }
 }

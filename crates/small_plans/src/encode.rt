@@ -94,6 +94,19 @@ fn days(out: &mut [u8; 160], at: usize, t: Team) -> usize {
     two(out, next, bytes[3], bytes[4])
 }
 
+// A GLUE for each of m instruments that is in a set.
+fn glues(out: &mut [u8; 160], at: usize, m: usize, glued: u64) -> usize
+    requires { ⌜ m ≤ 5 ⌝ }
+{
+    let mut end = at;
+    for g in 0..m {
+        if sets::member(glued, g) {
+            end = two(out, end, 12, g as u8);
+        }
+    }
+    end
+}
+
 // What names the instruments of a team.
 fn instruments(out: &mut [u8; 160], at: usize, m: usize, t: Team) -> usize
     requires { ⌜ m ≤ 5 ⌝ }
@@ -111,16 +124,18 @@ fn instruments(out: &mut [u8; 160], at: usize, m: usize, t: Team) -> usize
     fits(out, at, m, t, 9)
 }
 
-// A team. Where its channels are even its DAYS comes first, and else last.
-fn team(out: &mut [u8; 160], at: usize, m: usize, t: Team) -> usize
+// A team with its glued instruments. Where its channels are even its DAYS comes first and its GLUEs last, and else its GLUEs come first.
+fn team(out: &mut [u8; 160], at: usize, m: usize, t: Team, glued: u64) -> usize
     requires { ⌜ m ≤ 5 ⌝ }
 {
     let open = two(out, at, t.kind, t.channels);
     if t.channels % 2 == 0 {
         let next = days(out, open, t);
-        return instruments(out, next, m, t);
+        let last = instruments(out, next, m, t);
+        return glues(out, last, m, glued);
     }
-    let next = instruments(out, open, m, t);
+    let first = glues(out, open, m, glued);
+    let next = instruments(out, first, m, t);
     days(out, next, t)
 }
 
@@ -132,11 +147,12 @@ pub fn plan(out: &mut [u8; 160], d: Drawing) -> usize
     let n = d.n;
     let pool = d.pool;
     let teams = d.teams;
+    let glued = d.glued;
     let start = three(out, 0, 1, 1, m as u8);
     let mut end = fits(out, start, m, pool, 10);
     for t in 0..n {
         let one = teams[t];
-        end = team(out, end, m, one);
+        end = team(out, end, m, one, glued[t]);
     }
     byte(out, end, 7)
 }

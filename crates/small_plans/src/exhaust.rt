@@ -2,9 +2,10 @@
 // 32 entries for each of four teams, by set; a team that is not in the plan has zeros.
 ghost use Prim.Native.Nat.{_≤_, _<_};
 use crate::draw::Drawing;
+use crate::glue;
 use crate::present;
+use rule::glue::Site;
 use std::num::wrapping_add_u64;
-use team::Team;
 
 // What the search finds of a plan of m instruments and n teams: who is present, the table of worths, the greatest total, the bundles of the
 // first division that comes to it, and each team's share.
@@ -23,17 +24,16 @@ fn as_byte(size: usize) -> u8 {
     if size < 255 { size as u8 } else { 255 }
 }
 
-// Whether a team finds each set of five instruments independent; one with a member at or above m, or one that the team cannot use on its days,
-// never is.
-fn independents(team: Team, usable: u64, m: usize) -> [bool; 32]
+// Whether a team finds each set of five instruments independent; one with a member at or above m never is.
+fn independents(s: Site, m: usize) -> [bool; 32]
     requires { ⌜ m ≤ 64 ⌝ }
 {
-    let all = rule::below(m, usable);
+    let all = sets::all_below(m);
     let mut free = [false; 32];
     for k in 0..32usize {
         let set = k as u64;
         if sets::minus(set, all) == 0 {
-            free[k] = rule::independent(team, set);
+            free[k] = rule::glue::independent(s, set);
         }
     }
     free
@@ -54,23 +54,24 @@ fn largest(free: [bool; 32], set: u64) -> usize {
 }
 
 // Puts the worths of team t in the table.
-fn put_worths(table: &mut [u8; 128], t: usize, team: Team, usable: u64, m: usize)
+fn put_worths(table: &mut [u8; 128], t: usize, s: Site, m: usize)
     requires { ⌜ (t < 4) × (m ≤ 64) ⌝ }
 {
-    let free = independents(team, usable, m);
+    let free = independents(s, m);
     for k in 0..32usize {
         table[t * 32 + k] = as_byte(largest(free, k as u64));
     }
 }
 
-// What each set of five instruments is worth to each team, by the pool's SHELFs.
-fn worths(pool: Team, teams: [Team; 3], m: usize, n: usize) -> [u8; 128]
-    requires { ⌜ (m ≤ 64) × (n ≤ 3) ⌝ }
+// What each set of five instruments is worth to each team, by the pool's SHELFs and the GLUEs.
+fn worths(d: Drawing) -> [u8; 128]
+    requires { ⌜ (d .m ≤ 5) × (d .n ≤ 3) ⌝ }
 {
+    let m = d.m;
+    let n = d.n;
     let mut table = [0u8; 128];
     for t in 0..n {
-        let team = teams[t];
-        put_worths(&mut table, t, team, rule::loan::usable(pool, team), m);
+        put_worths(&mut table, t, glue::site(d, t), m);
     }
     table
 }
@@ -186,10 +187,9 @@ pub fn search(d: Drawing) -> Found
     requires { ⌜ (d .m ≤ 5) × (1 ≤ d .n) × (d .n ≤ 3) ⌝ }
     ensures { λ r. ⌜ (r .m ≤ 5) × (r .n ≤ 3) ⌝ }
 {
-    let pool = d.pool;
     let teams = d.teams;
     let here = present::among(teams, d.n);
-    let table = worths(pool, teams, d.m, d.n);
+    let table = worths(d);
     let bundles = parts(best_division(table, d.n), d.n + 1);
     Found {
         m: d.m,

@@ -104,6 +104,7 @@ pub fn lent(d: Drawing, e: Ends) -> Drawing
     ensures { λ r. ⌜ (r .m ≤ 5) × (1 ≤ r .n) × (r .n ≤ 3) ⌝ }
 {
     let teams = d.teams;
+    let glued = d.glued;
     let shelf = pool_of(e, d.x);
     let a = with_days(e, teams[0], shelf.x);
     let b = with_days(e, teams[1], a.x);
@@ -118,6 +119,7 @@ pub fn lent(d: Drawing, e: Ends) -> Drawing
         n: d.n,
         pool,
         teams: list,
+        glued,
         x: c.x,
     }
 }

@@ -1,5 +1,5 @@
-// Random plans of up to five instruments and three teams, about one team in four away, without loan days and with them: Build's sheets, and
-// what Check says of them and of changed ones, beside a search through all divisions and all cuts.
+// Random plans of up to five instruments and three teams, about one team in four away, without loan days and with them, and with glued
+// instruments: Build's sheets, and what Check says of them and of changed ones, beside a search through all divisions and all cuts.
 use counts::Counts;
 use draw::Family;
 use lines::print;
@@ -14,6 +14,8 @@ mod draw;
 mod encode;
 mod ends;
 mod exhaust;
+mod gained;
+mod glue;
 mod loan;
 mod present;
 mod stated;
@@ -112,6 +114,14 @@ fn open() -> Ends {
     e
 }
 
+// No SHELF and no DAYS.
+fn none() -> Ends {
+    let mut e = few();
+    e.shelf = [255u8; 8];
+    e.days = [255u8; 8];
+    e
+}
+
 // The counts of 1,000 plans of a family.
 fn counted(f: Family, seed: u64) -> Counts {
     let mut c = counts::none();
@@ -137,6 +147,18 @@ fn counted_lent(f: Family, e: Ends, seed: u64) -> Counts {
     c
 }
 
+// The counts of 1,000 plans of a family with loan days and glued instruments.
+fn counted_glued(f: Family, e: Ends, seed: u64) -> Counts {
+    let mut c = counts::none();
+    let mut x = seed;
+    for k in 0..1000usize {
+        let d = glue::glued(loan::lent(draw::drawn(f, x), e));
+        x = d.x;
+        c = counts::plus(c, gained::of_plan(d));
+    }
+    c
+}
+
 // Counts and shows the plans of a family under its name, and hands back the counts of all so far.
 fn run(name: &[u8], f: Family, seed: u64, before: Counts) -> Counts {
     let c = counted(f, seed);
@@ -154,6 +176,58 @@ fn run_lent(name: &[u8], f: Family, e: Ends, seed: u64, before: Counts) -> Count
     counts::show(c);
     counts::show_days(c);
     counts::plus(before, c)
+}
+
+// The same for a family with loan days and glued instruments.
+fn run_glued(name: &[u8], f: Family, e: Ends, seed: u64, before: Counts) -> Counts {
+    let c = counted_glued(f, e, seed);
+    print::text(name);
+    print::text(b"\n");
+    counts::show(c);
+    counts::show_glued(c);
+    counts::plus(before, c)
+}
+
+// Five families of plans with glued instruments, and the counts of all together.
+fn glued() {
+    let a = run_glued(
+        b"CAPS teams with glued instruments",
+        caps(),
+        none(),
+        20213,
+        counts::none(),
+    );
+    let b = run_glued(
+        b"LOOPS teams with glued instruments",
+        loops(),
+        none(),
+        20214,
+        a,
+    );
+    let c = run_glued(
+        b"MOUNTS teams with glued instruments",
+        mounts(),
+        none(),
+        20215,
+        b,
+    );
+    let d = run_glued(
+        b"uneven teams with glued instruments",
+        uneven(),
+        none(),
+        20216,
+        c,
+    );
+    let e = run_glued(
+        b"uneven teams with loan days and glued instruments",
+        uneven(),
+        open(),
+        20217,
+        d,
+    );
+    print::text(b"all with glued instruments\n");
+    counts::show(e);
+    counts::show_glued(e);
 }
 
 // Six families of plans with loan days, and the counts of all together.
@@ -193,7 +267,7 @@ fn lent() {
     counts::show_days(f);
 }
 
-// Six families of plans without loan days, and the counts of all together; then those with loan days.
+// Six families of plans without loan days, and the counts of all together; then those with loan days and those with glued instruments.
 fn main() {
     let a = run(b"CAPS teams", caps(), 20201, counts::none());
     let b = run(b"LOOPS teams", loops(), 20202, a);
@@ -209,4 +283,5 @@ fn main() {
     print::text(b"all\n");
     counts::show(f);
     lent();
+    glued();
 }

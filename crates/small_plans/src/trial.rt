@@ -59,3 +59,32 @@ pub fn run(d: Drawing) -> Counts
     let k = encode::plan(&mut bytes, d);
     counts::plus(compare::of_plan(f), of_plan(f, &bytes, k, d.x))
 }
+
+// Whether an answer is 18 at the last of k bytes.
+fn at_end(b: Built, k: usize) -> bool {
+    match b {
+        Built::Refused(number, place) => {
+            if place < k {
+                return number == 18 && k - place == 1;
+            }
+            false
+        }
+        Built::Wrote(_) => false,
+    }
+}
+
+// Whether Build refuses the plan in the first k bytes with 18 at its END, and writes nothing.
+fn falls(bytes: &[u8; 160], k: usize) -> bool {
+    let mut space = [FILLER; 128];
+    let b = builder::build(lines::front(bytes, k), &mut space);
+    at_end(b, k) && beyond(&space, 0) == 0
+}
+
+// Whether Build so refuses one drawn plan.
+pub fn refused(d: Drawing) -> bool
+    requires { ⌜ (d .m ≤ 5) × (1 ≤ d .n) × (d .n ≤ 3) ⌝ }
+{
+    let mut bytes = [0u8; 160];
+    let k = encode::plan(&mut bytes, d);
+    falls(&bytes, k)
+}

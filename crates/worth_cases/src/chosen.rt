@@ -14,34 +14,36 @@ fn width(command: Command) -> usize
     if w < 6 { w } else { 6 }
 }
 
-// The team that the commands after the tenth byte fill, by no rule but the tables' sizes.
-fn filled(bytes: &[u8]) -> Team {
+// The team that the commands from an offset on fill, by no rule but the tables' sizes.
+pub fn filled(bytes: &[u8], from: usize) -> Team {
     let mut row = [255u8; row::WIDTH];
-    let mut at: usize = 10;
+    let mut at = from;
     while at < bytes.len() {
         let command = command::decode::command_at(bytes, at);
         let w = width(command);
         if w == 0 {
             return row::team(&row);
         }
-        carry::change(&mut row, command);
+        carry::change(&mut row, 1, command);
         at += w;
     }
     row::team(&row)
 }
 
-// The set of the third byte to the tenth, low byte first.
-fn set_of(bytes: &[u8]) -> u64 {
+// The set of the eight bytes of which the last is at an offset, low byte first.
+pub fn set_of(bytes: &[u8], last: usize) -> u64
+    requires { ⌜ 7 ≤ last ⌝ }
+{
     let mut set: u64 = 0;
     for k in 0..8usize {
-        let byte = command::decode::byte_at(bytes, 9 - k);
+        let byte = command::decode::byte_at(bytes, last - k);
         set = set << 8 | byte as u64;
     }
     set
 }
 
 // A count of instruments, and 64 where it is greater.
-fn count(byte: u8) -> usize
+pub fn count(byte: u8) -> usize
     ensures { λ r. ⌜ r ≤ 64 ⌝ }
 {
     if byte > 64 {
@@ -64,7 +66,7 @@ fn show_worth(v: Valuation, m: usize, set: u64)
 }
 
 // The members of a set, rising, each after a space.
-fn members(set: u64) {
+pub fn members(set: u64) {
     for g in 0..64usize {
         if sets::member(set, g) {
             print::marked(b" ", g as u64);
@@ -95,8 +97,8 @@ pub fn answer(hex: &[u8]) {
     let k = lines::decode(hex, &mut space);
     let bytes = &space[..k];
     let m = count(command::decode::byte_at(bytes, 0));
-    let set = set_of(bytes);
-    let mut team = filled(bytes);
+    let set = set_of(bytes, 9);
+    let mut team = filled(bytes, 10);
     team.kind = command::decode::byte_at(bytes, 1);
     let valuation = Valuation {
         team,

@@ -6,6 +6,7 @@ use lines::print;
 mod chosen;
 mod defined;
 mod draw;
+mod gained;
 mod loan;
 mod many;
 
@@ -27,6 +28,10 @@ fn perform(line: &[u8]) {
     }
     if lines::same(verb, b"team") {
         chosen::answer(operands);
+        return;
+    }
+    if lines::same(verb, b"gained") {
+        gained::answer(operands);
         return;
     }
     print::text(b"UNKNOWN ");

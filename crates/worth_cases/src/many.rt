@@ -9,6 +9,7 @@ use crate::draw::Family;
 use crate::loan;
 use crate::loan::Ends;
 use lines::print;
+use rule::glue;
 use std::num::wrapping_add_u64;
 
 // What is drawn besides the team and the set: nothing, usable and glued instruments, or loan days.
@@ -74,6 +75,31 @@ fn with_usable(t: Tally, c: Case) -> Tally {
     }
 }
 
+// The tally with the worth of a case's set by the words of note 6, where an instrument is glued. A glued instrument is not usable there.
+fn with_gained(t: Tally, c: Case) -> Tally
+    requires { ⌜ c .m ≤ 64 ⌝ }
+{
+    let v = c.valuation;
+    let own = rule::below(c.m, v.glued);
+    if own == 0 {
+        return t;
+    }
+    let answer = kinds::worth_of(defined::glued(v, own), c.m, c.set) as u64;
+    let right = glue::worth(defined::site(v, own), c.m, c.set) as u64;
+    Tally {
+        worth: t.worth,
+        gains: t.gains,
+        differences: counted(t.differences, answer, right),
+    }
+}
+
+// The tally with a case.
+fn with_case(t: Tally, c: Case) -> Tally
+    requires { ⌜ c .m ≤ 64 ⌝ }
+{
+    with_gained(with_usable(with_gains(with_worth(t, c), c), c), c)
+}
+
 // A case of a family, drawn after x, with glued instruments, with loan days, or with neither.
 fn case(f: Family, e: Ends, x: u64, sort: u8) -> Case
     ensures { λ r. ⌜ r .m ≤ 64 ⌝ }
@@ -99,7 +125,7 @@ fn tallied(f: Family, e: Ends, count: usize, seed: u64, sort: u8) -> Tally {
     let mut k: usize = 0;
     while k < count {
         let c = case(f, e, x, sort);
-        t = with_usable(with_gains(with_worth(t, c), c), c);
+        t = with_case(t, c);
         x = c.x;
         k += 1;
     }

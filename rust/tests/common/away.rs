@@ -206,12 +206,19 @@ fn sheets_from_before() -> Vec<Case> {
     ]
 }
 
-/// A plan with the channels of some teams made 0, and at least 1 for the others.
+/// A plan with the channels of some teams made 0, and at least 1 for the others. GLUEs of teams
+/// with channels 0, which would be refused, are left out.
 pub fn with_present(file: &[u8], present: impl Fn(usize) -> bool) -> Vec<u8> {
     let mut row = commands(file);
-    let openings = row.iter_mut().filter(|row| matches!(row[0], 2 | 3 | 8));
-    for (team, command) in openings.enumerate() {
-        command[1] = if present(team) { command[1].max(1) } else { 0 };
+    let (mut teams, mut channels) = (0, 0);
+    for command in &mut row {
+        if matches!(command[0], 2 | 3 | 8) {
+            channels = if present(teams) { command[1].max(1) } else { 0 };
+            command[1] = channels;
+            teams += 1;
+        } else if command[0] == 0x0c && channels == 0 {
+            command.clear();
+        }
     }
     row.concat()
 }

@@ -1,6 +1,7 @@
 //! Note 5: plans with joints around the last one, the refusals that their SPANs meet, and ways
 //! to change the joints of a plan.
 
+use super::glue::without_glue;
 use super::{hex, some_plan};
 use pool::plan::commands;
 use pool::random::Random;
@@ -98,7 +99,7 @@ pub const JOINT_FAULTS: [(&str, u8, usize); 78] = [
     ("01 01 02 03 09 06 00 28 01", 5, 5),
     ("01 01 02 03 09 06 00 28 01 07 07", 5, 5),
     ("01 01 02 03 09 06 00 01 3F 07 00 FF", 5, 5),
-    ("01 01 02 03 09 06 00 28 01 0C", 5, 5),
+    ("01 01 02 03 09 06 00 28 01 0D", 5, 5),
     ("01 01 02 03 09 06 00 28 01 06 00", 5, 5),
     ("01 01 02 03 09 06 00 28 01 06 01 03 03 07", 5, 5),
     ("01 01 02 03 09 06 00 28 01 06 00 01 02 07", 5, 5),
@@ -293,9 +294,9 @@ pub fn one_of_many() -> Vec<Reading> {
 }
 
 /// A random plan with other joints, drawn from 0 to 39, from 0 to 40 or from 0 to 63, and now
-/// and then another instrument. Nothing but SPANs can be at fault.
+/// and then another instrument, and without GLUEs. Nothing but SPANs can be at fault.
 pub fn with_any_joints(random: &mut Random, instruments: usize, teams: usize) -> Vec<u8> {
-    let mut row = commands(&some_plan(random, instruments, teams));
+    let mut row = commands(&without_glue(&some_plan(random, instruments, teams)));
     let joints = random.pick(&[40, 41, 64, 64]);
     let rate = random.pick(&[1, 2, 4]);
     let others = random.below(2);

@@ -4,6 +4,7 @@
 
 pub mod away;
 pub mod days;
+pub mod glue;
 pub mod joints;
 pub mod nets;
 #[cfg(proved)]
@@ -15,6 +16,7 @@ use pool::random::Random;
 use pool::sample::any_plan;
 use pool::sheet::Layout;
 use pool::writer::PlanWriter;
+use pool::{bits, definition};
 
 /// The number of small cases; POOL_CASES asks for a longer run.
 pub fn cases() -> usize {
@@ -58,8 +60,8 @@ pub const MOUNTS_FAULTS: [(&str, u8, usize); 35] = [
     ("01 01 02 08 09 09 02 01 00 07", 2, 5),
     ("01 01 02 02 09 09 00 01 00 07", 2, 5),
     ("01 01 02 09 00 01", 2, 3),
-    ("01 01 02 0C", 3, 3),
-    ("01 01 02 08 09 0C 00 01 00 00 00 07", 3, 5),
+    ("01 01 02 0D", 3, 3),
+    ("01 01 02 08 09 0D 00 01 00 00 00 07", 3, 5),
     ("01 01 02 08 09 FF", 3, 5),
     ("01 01 02 09 00 01 00 00 00 07", 4, 3),
     ("01 01 02 02 09 09 00 01 00 00 00 07", 4, 5),
@@ -103,18 +105,29 @@ pub const MOUNTS_FAULTS: [(&str, u8, usize); 35] = [
 
 /// The longest plan before its END: shelf days for each instrument, and twelve MOUNTS teams,
 /// each instrument fitting two mounts, with their days. All days lack a few of three weeks at
-/// either end, so that a team can have some of the instruments.
+/// either end, so that a team can have some of the instruments. Each instrument is glued to a
+/// team whose days are its shelf days, before its FIT or after it.
 pub fn longest_plan() -> PlanWriter {
+    let days = |team: usize| ((team % 7) as u16, 21 - (team % 5) as u16);
     let mut plan = PlanWriter::start(64);
     for item in 0..64 {
-        plan.shelf(item, (item % 7) as u16, 21 - (item % 5) as u16);
+        let (from, to) = days(item % 12);
+        plan.shelf(item, from, to);
     }
     for team in 0..12 {
         plan.mounts(255);
         for item in 0..64 {
+            let glued = item % 12 == team;
+            if glued && item < 32 {
+                plan.glue(item);
+            }
             plan.fit(item, 1 << (item % 32) | 1 << ((item + 1) % 32));
+            if glued && item >= 32 {
+                plan.glue(item);
+            }
         }
-        plan.days(team % 7, 21 - team % 5);
+        let (from, to) = days(team);
+        plan.days(from, to);
     }
     plan
 }
@@ -127,7 +140,7 @@ pub fn own_sheet(file: &[u8]) -> Vec<u8> {
 
 /// How often each refusal number came up.
 #[derive(Default)]
-pub struct Tally([usize; 18]);
+pub struct Tally([usize; 19]);
 
 impl Tally {
     /// Counts an answer of Check, or a refused Build.
@@ -199,10 +212,10 @@ pub fn loose_commands(random: &mut Random) -> Vec<u8> {
     }
     for _ in 0..random.below(24) {
         let usual = random.pick(&[
-            2, 2, 3, 3, 3, 4, 4, 5, 5, 5, 6, 6, 6, 6, 6, 8, 8, 9, 9, 9, 11, 11,
+            2, 2, 3, 3, 3, 4, 4, 5, 5, 5, 6, 6, 6, 6, 6, 8, 8, 9, 9, 9, 11, 11, 12,
         ]);
         let byte = if random.chance(1, 16) {
-            random.pick(&[1, 7, 0, 10, 12, 255])
+            random.pick(&[1, 7, 0, 10, 13, 255])
         } else {
             usual
         };
@@ -280,4 +293,18 @@ fn damage_page(random: &mut Random, layout: Layout, team: usize, present: usize,
 /// Makes a byte a little larger or smaller.
 fn step(random: &mut Random, byte: &mut u8) {
     *byte = byte.wrapping_add(random.pick(&[1, 255, 2, 254, 10]));
+}
+
+/// The two laws for two random sets and the first team of a plan: a part of an independent set
+/// is independent, and a smaller one gains a member of a larger.
+pub fn two_laws(random: &mut Random, file: &[u8]) {
+    let plan = read(file);
+    let team = &plan.teams[0];
+    let independent = |set| definition::independent(&plan, team, set);
+    let (a, b) = (random.word() & plan.all(), random.word() & plan.all());
+    assert!(independent(0));
+    assert!(!independent(a) || independent(a & b));
+    if independent(a) && independent(b) && bits::size(a) < bits::size(b) {
+        assert!(bits::members(b & !a).any(|item| independent(a | bits::one(item))));
+    }
 }

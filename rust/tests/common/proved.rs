@@ -68,6 +68,27 @@ pub fn bundle_verdict(file: &[u8], bundle: u64) -> u64 {
     same_verdict(file, &found.bytes(plan.instruments))
 }
 
+/// A bundle of one team of 64 instruments that grows by what it gains, and at each step with
+/// any other instrument: Check takes it exactly where it is independent.
+pub fn growing_bundle(random: &mut Random, file: &[u8], tally: &mut Tally) {
+    let team = &read(file).teams[0];
+    let mut bundle = 0;
+    loop {
+        let gains = team.gains(bundle);
+        let item = random.below(64);
+        let verdict = bundle_verdict(file, bundle | bits::one(item));
+        let free = bits::has(bundle | gains, item);
+        assert_eq!(verdict >> 16 != 13, free, "{bundle:b} by {file:x?}");
+        tally.count(verdict);
+        if gains == 0 {
+            break;
+        }
+        let members: Vec<usize> = bits::members(gains).collect();
+        bundle |= bits::one(random.pick(&members));
+    }
+    tally.count(bundle_verdict(file, bundle));
+}
+
 /// Gives the one team of a plan each bundle, and counts the verdicts: 13 where the bundle is not
 /// independent by the definition, and only there.
 pub fn every_bundle(file: &[u8], tally: &mut Tally) {

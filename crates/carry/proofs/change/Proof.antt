@@ -69,6 +69,15 @@ enum-known-command-9 c = search needs
 set-days-requires : tie.Need-set-days-requires
 set-days-requires c κs = search needs
 
+enum-known-command-10 : tie.Need-enum-known-command-10
+enum-known-command-10 c = search needs
+
+cast-set-named : tie.Need-cast-set-named
+cast-set-named c = search needs
+
+set-named-requires-5 : tie.Need-set-named-requires-5
+set-named-requires-5 c κs = search needs
+
 enum-told-5 : tie.Need-enum-told-5
 enum-told-5 c = search needs
 
@@ -151,9 +160,16 @@ returns-13 : tie.Need-returns-13
 unfolding changedTeam
 returns-13 c = rw (c .before .before .before .before .before .command9 .given .1) (c .before .before .set-days .ensures)
 
+same-length-10 : tie.Need-same-length-10
+same-length-10 c = search needs
+
 returns-14 : tie.Need-returns-14
 unfolding changedTeam
-returns-14 c = rw (c .enum-told5 .given .1)
+returns-14 c = rw (c .before .before .before .before .before .command10 .given .1) (c .before .before .set-named5 .ensures)
+
+returns-15 : tie.Need-returns-15
+unfolding changedTeam
+returns-15 c = rw (c .enum-told5 .given .1)
 
 pub change-spec : {M : Type 1} → statement M
 change-spec =
@@ -181,6 +197,9 @@ change-spec =
     set-named-requires-4
     enum-known-command-9
     set-days-requires
+    enum-known-command-10
+    cast-set-named
+    set-named-requires-5
     enum-told-5
     returns
     returns-2
@@ -204,4 +223,6 @@ change-spec =
     returns-12
     same-length-9
     returns-13
-    returns-14)
+    same-length-10
+    returns-14
+    returns-15)

@@ -60,6 +60,9 @@ enum-told-11 c = search needs
 enum-told-12 : tie.Need-enum-told-12
 enum-told-12 c = search needs
 
+enum-told-13 : tie.Need-enum-told-13
+enum-told-13 c = search needs
+
 returns : tie.Need-returns
 unfolding changedState
 returns c = rw (c .enum-told .given .1)
@@ -116,6 +119,10 @@ returns-14 : tie.Need-returns-14
 unfolding changedState
 returns-14 c = rw (c .enum-told12 .given .1)
 
+returns-15 : tie.Need-returns-15
+unfolding changedState
+returns-15 c = rw (c .enum-told13 .given .1)
+
 pub changed-state-spec : {M : Type 1} → statement M
 changed-state-spec =
     tie.close
@@ -139,6 +146,7 @@ changed-state-spec =
     enum-told-10
     enum-told-11
     enum-told-12
+    enum-told-13
     returns
     returns-2
     returns-3
@@ -152,4 +160,5 @@ changed-state-spec =
     returns-11
     returns-12
     returns-13
-    returns-14)
+    returns-14
+    returns-15)

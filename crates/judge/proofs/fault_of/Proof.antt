@@ -76,6 +76,12 @@ enum-known-command-7 c = search needs
 days-fault-requires : tie.Need-days-fault-requires
 days-fault-requires c κs = search needs
 
+enum-known-command-8 : tie.Need-enum-known-command-8
+enum-known-command-8 c = search needs
+
+glue-fault-requires : tie.Need-glue-fault-requires
+glue-fault-requires c κs = search needs
+
 enum-told-7 : tie.Need-enum-told-7
 enum-told-7 c = search needs
 
@@ -136,7 +142,11 @@ returns-13 c = rw (c .before .before .command7 .given .1) (c .days-fault .ensure
 
 returns-14 : tie.Need-returns-14
 unfolding fault
-returns-14 c = rw (c .before .enum-told7 .given .1) (c .end-fault .ensures)
+returns-14 c = rw (c .before .before .command8 .given .1) (c .glue-fault .ensures)
+
+returns-15 : tie.Need-returns-15
+unfolding fault
+returns-15 c = rw (c .before .enum-told7 .given .1) (c .end-fault .ensures)
 
 pub fault-of-spec : {M : Type 1} → statement M
 fault-of-spec =
@@ -166,6 +176,8 @@ fault-of-spec =
     shelf-fault-requires
     enum-known-command-7
     days-fault-requires
+    enum-known-command-8
+    glue-fault-requires
     enum-told-7
     end-fault-requires
     returns
@@ -181,4 +193,5 @@ fault-of-spec =
     returns-11
     returns-12
     returns-13
-    returns-14)
+    returns-14
+    returns-15)

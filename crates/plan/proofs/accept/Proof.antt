@@ -25,8 +25,13 @@ part-shelf-end c = search needs
 shelf-requires : tie.Need-shelf-requires
 shelf-requires c κs = search needs
 
+glue-requires : tie.Need-glue-requires
+glue-requires c κs = search needs
+
 returns : tie.Need-returns
-returns c = accepted-is (now (c .before .before .before .before .before .args .rows)) (c .before .before .before .before .before .args .s) _ _ _ (c .before .before .before .teams .ensures) (c .before .before .days .ensures) (c .shelf .ensures ∙ ap (shelfDays (c .before .before .before .before .before .args .s .m)) (pool-lent (now (c .before .before .before .before .before .args .rows))))
+returns c =
+    let start = c .before .before .before .before .before .before in
+    accepted-is (now (start .args .rows)) (start .args .s) _ _ _ (c .before .before .before .before .teams .ensures) (c .before .before .before .days .ensures) (c .before .shelf .ensures ∙ ap (shelfDays (start .args .s .m)) (pool-lent (now (start .args .rows)))) (start .pre .1) _ (c .glue .ensures)
 
 pub accept-spec : {M : Type 1} → statement M
 accept-spec =
@@ -38,4 +43,5 @@ accept-spec =
     part-shelf-start
     part-shelf-end
     shelf-requires
+    glue-requires
     returns)

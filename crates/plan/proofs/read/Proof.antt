@@ -20,7 +20,7 @@ slice-aggregate-read-commands c = search needs
 
 read-commands-requires : tie.Need-read-commands-requires
 unfolding rowAt rowTeam part
-read-commands-requires c κs = (sym (c .before .before .byte-at .ensures) ∙ c .before .if1 .left, refl, refl)
+read-commands-requires c κs = (sym (c .before .before .byte-at .ensures) ∙ c .before .if1 .left, refl, refl, refl)
 
 slice-aggregate-answer : tie.Need-slice-aggregate-answer
 slice-aggregate-answer c = search needs

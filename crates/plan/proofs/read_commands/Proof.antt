@@ -273,7 +273,7 @@ module _ {M : Type 1} (𝓤 : URA M) (H : Heap 𝓤) (A : Atoms 𝓤) (W : Given
   abbrev last-three : Body
   last-three = seq (cond (copy (place 12 [])) (seq (assign (place 0 []) (rvOpd (copy (place 7 [])))) return) skip) last-two
 
-  module _ (𝓣 : Tables 𝓤 H) (known : Known 𝓤 H A mem run (𝓣 .C)) (is-s : Is (ShrSlice (named 0) κ u8) s (v ∷ [])) (full : length rows ≡ 4459) (l₀ l₁ l₂ l₃ l₄ l₅ l₆ l₇ l₈ l₉ l₁₀ l₁₁ l₁₂ : ℕ) where
+  module _ (𝓣 : Tables 𝓤 H) (known : Known 𝓤 H A mem run (𝓣 .C)) (is-s : Is (ShrSlice (named 0) κ u8) s (v ∷ [])) (full : length rows ≡ 4802) (l₀ l₁ l₂ l₃ l₄ l₅ l₆ l₇ l₈ l₉ l₁₀ l₁₁ l₁₂ : ℕ) where
     abbrev C : Calls 𝓤 H
     C = 𝓣 .C
 
@@ -375,7 +375,7 @@ module _ {M : Type 1} (𝓤 : URA M) (H : Heap 𝓤) (A : Atoms 𝓤) (W : Given
         by ! (judges t h r (subst (Is P.the-row r) (LL.tells P.the-type P′.the-laws r _ is-u) is-u) (ws .0) long done-so .prf)))))))))))
 
   -- the MIR up to the loop, and the loop
-  walk : (𝓣 : Tables 𝓤 H) → Known 𝓤 H A mem run (𝓣 .C) → Is (ShrSlice (named 0) κ u8) s (v ∷ []) → (getD file 0 0 ≡ 1) × (length rows ≡ 4459) × (rowAt rows 0 ≡ blankTeam)
+  walk : (𝓣 : Tables 𝓤 H) → Known 𝓤 H A mem run (𝓣 .C) → Is (ShrSlice (named 0) κ u8) s (v ∷ []) → (getD file 0 0 ≡ 1) × (length rows ≡ 4802) × (rowAt rows 0 ≡ blankTeam) × (rowAt rows 13 ≡ blankTeam)
       → ent 𝓤 (onEntry 𝓤 H A read-commands.signature (κ, (κ′, tt)) (q, (q′, tt)) (s, (x γ rows, tt)) passed) (WpFn 𝓤 H (𝓣 .C) (𝓣 .Λ) code.function (v ∷ w ∷ []) Post)
   walk 𝓣 known is-s asks =
       let fm = fmOf 𝓤 H (W .laws) 𝓣 in
@@ -398,12 +398,12 @@ module _ {M : Type 1} (𝓤 : URA M) (H : Heap 𝓤) (A : Atoms 𝓤) (W : Given
       land ! (from ! (stop !)) (init ! 20 refl (LL.lawful S.the-type S′.the-laws 𝓤 H A W .typed start _ is-st .0)) $
       rewrite ! 20 (λ (z : Val). ‵ (fat fullShare S′.mir l₄ 0 z)) (ap only (LL.tells S.the-type S′.the-laws start _ is-st)) refl $
       first ! $ blocks ! $ loops ! 𝓣 Nearer Nearer-wf (At 𝓣 known is-s (asks .1) l₀ l₁ l₂ l₃ l₄ l₅ l₆ l₇ l₈ l₉ l₁₀ l₁₁ l₁₂) (turns 𝓣 known is-s (asks .1) l₀ l₁ l₂ l₃ l₄ l₅ l₆ l₇ l₈ l₉ l₁₀ l₁₁ l₁₂)
-      (record { n = 0; ok = lit< tt; st = start; is-st = subst (Is S.the-row start) (LL.tells S.the-type S′.the-laws start _ is-st) is-st; zs = rows; here = stands-start file rows (asks .0) (asks .1) (asks .2) }))))))))))))))))))
+      (record { n = 0; ok = lit< tt; st = start; is-st = subst (Is S.the-row start) (LL.tells S.the-type S′.the-laws start _ is-st) is-st; zs = rows; here = stands-start file rows (asks .0) (asks .1) (asks .2) (asks .3) }))))))))))))))))))
 
 module _ {M : Type 1} (𝓤 : URA M) (H : Heap 𝓤) (A : Atoms 𝓤) (W : Given 𝓤 H A) (mem : Memory → SProp 𝓤) (run : Routine → Fun 𝓤) (𝓣 : Tables 𝓤 H) (known : Known 𝓤 H A mem run (𝓣 .C)) where
   read-commands-walks : Walks 𝓤 H A read-commands.ended stayed (WpFn 𝓤 H (𝓣 .C) (𝓣 .Λ) code.function) (read-commands.clauses 𝓤 H A mem run)
   read-commands-walks = walked 𝓤 H A read-commands.ended stayed (read-commands.clauses 𝓤 H A mem run) (WpFn 𝓤 H (𝓣 .C) (𝓣 .Λ) code.function) (λ κs. (slice-vals, (slice-vals, tt))) (λ κs. (shr-slice-tells (named 0) (κs .0) u8, (mut-slice-tells (named 1) (κs .1 .0) u8, tt)))
-      (λ κs qs bounds a g are. needs 𝓤 ((getD (now (a .0)) 0 0 ≡ 1) × (length (now (a .1 .0)) ≡ 4459) × (rowAt (now (a .1 .0)) 0 ≡ blankTeam)) _ (λ asks.
+      (λ κs qs bounds a g are. needs 𝓤 ((getD (now (a .0)) 0 0 ≡ 1) × (length (now (a .1 .0)) ≡ 4802) × (rowAt (now (a .1 .0)) 0 ≡ blankTeam) × (rowAt (now (a .1 .0)) 13 ≡ blankTeam)) _ (λ asks.
       walk 𝓤 H A W mem run (κs .0) (κs .1 .0) (qs .0) (qs .1 .0) (a .0) (a .1 .0 .ptr .0) (a .1 .0 .ptr .1) (a .1 .0 .name) (a .1 .0 .now) (are .1 .0 .0 .1) 𝓣 known (are .0) asks))
 
   read-commands-meets : Meets 𝓤 H A read-commands.signature (WpFn 𝓤 H (𝓣 .C) (𝓣 .Λ) code.function) (read-commands.spec 𝓤 H A mem run)

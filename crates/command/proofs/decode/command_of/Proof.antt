@@ -160,6 +160,12 @@ add-t80 c = search needs
 shared-slice-read-t82 : tie.Need-shared-slice-read-t82
 shared-slice-read-t82 c = omega (arith, rw (c .before .before .before .before .match .keys10) at (c .before .before .before .before .before .pre))
 
+add-t83 : tie.Need-add-t83
+add-t83 c = search needs
+
+shared-slice-read-t85 : tie.Need-shared-slice-read-t85
+shared-slice-read-t85 c = omega (arith, rw (c .before .match .keys11) at (c .before .before .pre))
+
 returns : tie.Need-returns
 returns c = rw (c .before .before .match .keys1)
 
@@ -191,7 +197,10 @@ returns-10 : tie.Need-returns-10
 returns-10 c = rw (c .before .before .before .before .match .keys10)
 
 returns-11 : tie.Need-returns-11
-returns-11 c = let h = c .match .rest in rw (ne-eqb (c .before .args .byte) 1 (h .0 .0 .0 .0 .0 .0 .0 .0 .0 .1), ne-eqb (c .before .args .byte) 2 (h .0 .0 .0 .0 .0 .0 .0 .0 .1), ne-eqb (c .before .args .byte) 3 (h .0 .0 .0 .0 .0 .0 .0 .1), ne-eqb (c .before .args .byte) 4 (h .0 .0 .0 .0 .0 .0 .1), ne-eqb (c .before .args .byte) 5 (h .0 .0 .0 .0 .0 .1), ne-eqb (c .before .args .byte) 6 (h .0 .0 .0 .0 .1), ne-eqb (c .before .args .byte) 8 (h .0 .0 .0 .1), ne-eqb (c .before .args .byte) 9 (h .0 .0 .1), ne-eqb (c .before .args .byte) 10 (h .0 .1), ne-eqb (c .before .args .byte) 11 (h .1))
+returns-11 c = rw (c .before .match .keys11)
+
+returns-12 : tie.Need-returns-12
+returns-12 c = let h = c .match .rest in rw (ne-eqb (c .before .args .byte) 1 (h .0 .0 .0 .0 .0 .0 .0 .0 .0 .0 .1), ne-eqb (c .before .args .byte) 2 (h .0 .0 .0 .0 .0 .0 .0 .0 .0 .1), ne-eqb (c .before .args .byte) 3 (h .0 .0 .0 .0 .0 .0 .0 .0 .1), ne-eqb (c .before .args .byte) 4 (h .0 .0 .0 .0 .0 .0 .0 .1), ne-eqb (c .before .args .byte) 5 (h .0 .0 .0 .0 .0 .0 .1), ne-eqb (c .before .args .byte) 6 (h .0 .0 .0 .0 .0 .1), ne-eqb (c .before .args .byte) 8 (h .0 .0 .0 .0 .1), ne-eqb (c .before .args .byte) 9 (h .0 .0 .0 .1), ne-eqb (c .before .args .byte) 10 (h .0 .0 .1), ne-eqb (c .before .args .byte) 11 (h .0 .1), ne-eqb (c .before .args .byte) 12 (h .1))
 
 pub command-of-spec : {M : Type 1} → statement M
 command-of-spec =
@@ -249,6 +258,8 @@ command-of-spec =
     shared-slice-read-t79
     add-t80
     shared-slice-read-t82
+    add-t83
+    shared-slice-read-t85
     returns
     returns-2
     returns-3
@@ -259,4 +270,5 @@ command-of-spec =
     returns-8
     returns-9
     returns-10
-    returns-11)
+    returns-11
+    returns-12)

@@ -7,20 +7,21 @@ use Rattle.command.proofs.decode.width_of.Statement.{statement}
 use Rattle.command.proofs.decode.width_of.Tie as tie
 
 -- a byte that is no command's has no width
-none : (byte : ℕ) → byte ≢ 1 → byte ≢ 2 → byte ≢ 3 → byte ≢ 4 → byte ≢ 5 → byte ≢ 6 → byte ≢ 7 → byte ≢ 8 → byte ≢ 9 → byte ≢ 10 → byte ≢ 11 → 0 ≡ widthOf byte
-none zero n1 n2 n3 n4 n5 n6 n7 n8 n9 n10 n11 = refl
-none (suc zero) n1 n2 n3 n4 n5 n6 n7 n8 n9 n10 n11 = absurd (n1 refl)
-none (suc (suc zero)) n1 n2 n3 n4 n5 n6 n7 n8 n9 n10 n11 = absurd (n2 refl)
-none (suc (suc (suc zero))) n1 n2 n3 n4 n5 n6 n7 n8 n9 n10 n11 = absurd (n3 refl)
-none (suc (suc (suc (suc zero)))) n1 n2 n3 n4 n5 n6 n7 n8 n9 n10 n11 = absurd (n4 refl)
-none (suc (suc (suc (suc (suc zero))))) n1 n2 n3 n4 n5 n6 n7 n8 n9 n10 n11 = absurd (n5 refl)
-none (suc (suc (suc (suc (suc (suc zero)))))) n1 n2 n3 n4 n5 n6 n7 n8 n9 n10 n11 = absurd (n6 refl)
-none (suc (suc (suc (suc (suc (suc (suc zero))))))) n1 n2 n3 n4 n5 n6 n7 n8 n9 n10 n11 = absurd (n7 refl)
-none (suc (suc (suc (suc (suc (suc (suc (suc zero)))))))) n1 n2 n3 n4 n5 n6 n7 n8 n9 n10 n11 = absurd (n8 refl)
-none (suc (suc (suc (suc (suc (suc (suc (suc (suc zero))))))))) n1 n2 n3 n4 n5 n6 n7 n8 n9 n10 n11 = absurd (n9 refl)
-none (suc (suc (suc (suc (suc (suc (suc (suc (suc (suc zero)))))))))) n1 n2 n3 n4 n5 n6 n7 n8 n9 n10 n11 = absurd (n10 refl)
-none (suc (suc (suc (suc (suc (suc (suc (suc (suc (suc (suc zero))))))))))) n1 n2 n3 n4 n5 n6 n7 n8 n9 n10 n11 = absurd (n11 refl)
-none (suc (suc (suc (suc (suc (suc (suc (suc (suc (suc (suc (suc k)))))))))))) n1 n2 n3 n4 n5 n6 n7 n8 n9 n10 n11 = refl
+none : (byte : ℕ) → byte ≢ 1 → byte ≢ 2 → byte ≢ 3 → byte ≢ 4 → byte ≢ 5 → byte ≢ 6 → byte ≢ 7 → byte ≢ 8 → byte ≢ 9 → byte ≢ 10 → byte ≢ 11 → byte ≢ 12 → 0 ≡ widthOf byte
+none zero n1 n2 n3 n4 n5 n6 n7 n8 n9 n10 n11 n12 = refl
+none (suc zero) n1 n2 n3 n4 n5 n6 n7 n8 n9 n10 n11 n12 = absurd (n1 refl)
+none (suc (suc zero)) n1 n2 n3 n4 n5 n6 n7 n8 n9 n10 n11 n12 = absurd (n2 refl)
+none (suc (suc (suc zero))) n1 n2 n3 n4 n5 n6 n7 n8 n9 n10 n11 n12 = absurd (n3 refl)
+none (suc (suc (suc (suc zero)))) n1 n2 n3 n4 n5 n6 n7 n8 n9 n10 n11 n12 = absurd (n4 refl)
+none (suc (suc (suc (suc (suc zero))))) n1 n2 n3 n4 n5 n6 n7 n8 n9 n10 n11 n12 = absurd (n5 refl)
+none (suc (suc (suc (suc (suc (suc zero)))))) n1 n2 n3 n4 n5 n6 n7 n8 n9 n10 n11 n12 = absurd (n6 refl)
+none (suc (suc (suc (suc (suc (suc (suc zero))))))) n1 n2 n3 n4 n5 n6 n7 n8 n9 n10 n11 n12 = absurd (n7 refl)
+none (suc (suc (suc (suc (suc (suc (suc (suc zero)))))))) n1 n2 n3 n4 n5 n6 n7 n8 n9 n10 n11 n12 = absurd (n8 refl)
+none (suc (suc (suc (suc (suc (suc (suc (suc (suc zero))))))))) n1 n2 n3 n4 n5 n6 n7 n8 n9 n10 n11 n12 = absurd (n9 refl)
+none (suc (suc (suc (suc (suc (suc (suc (suc (suc (suc zero)))))))))) n1 n2 n3 n4 n5 n6 n7 n8 n9 n10 n11 n12 = absurd (n10 refl)
+none (suc (suc (suc (suc (suc (suc (suc (suc (suc (suc (suc zero))))))))))) n1 n2 n3 n4 n5 n6 n7 n8 n9 n10 n11 n12 = absurd (n11 refl)
+none (suc (suc (suc (suc (suc (suc (suc (suc (suc (suc (suc (suc zero)))))))))))) n1 n2 n3 n4 n5 n6 n7 n8 n9 n10 n11 n12 = absurd (n12 refl)
+none (suc (suc (suc (suc (suc (suc (suc (suc (suc (suc (suc (suc (suc k))))))))))))) n1 n2 n3 n4 n5 n6 n7 n8 n9 n10 n11 n12 = refl
 
 returns : tie.Need-returns
 returns c = search needs
@@ -56,7 +57,10 @@ returns-11 : tie.Need-returns-11
 returns-11 c = search needs
 
 returns-12 : tie.Need-returns-12
-returns-12 c = let h = c .match .rest in none (c .before .args .byte) (h .0 .0 .0 .0 .0 .0 .0 .0 .0 .0 .1) (h .0 .0 .0 .0 .0 .0 .0 .0 .0 .1) (h .0 .0 .0 .0 .0 .0 .0 .0 .1) (h .0 .0 .0 .0 .0 .0 .0 .1) (h .0 .0 .0 .0 .0 .0 .1) (h .0 .0 .0 .0 .0 .1) (h .0 .0 .0 .0 .1) (h .0 .0 .0 .1) (h .0 .0 .1) (h .0 .1) (h .1)
+returns-12 c = search needs
+
+returns-13 : tie.Need-returns-13
+returns-13 c = let h = c .match .rest in none (c .before .args .byte) (h .0 .0 .0 .0 .0 .0 .0 .0 .0 .0 .0 .1) (h .0 .0 .0 .0 .0 .0 .0 .0 .0 .0 .1) (h .0 .0 .0 .0 .0 .0 .0 .0 .0 .1) (h .0 .0 .0 .0 .0 .0 .0 .0 .1) (h .0 .0 .0 .0 .0 .0 .0 .1) (h .0 .0 .0 .0 .0 .0 .1) (h .0 .0 .0 .0 .0 .1) (h .0 .0 .0 .0 .1) (h .0 .0 .0 .1) (h .0 .0 .1) (h .0 .1) (h .1)
 
 pub width-of-spec : {M : Type 1} → statement M
 width-of-spec =
@@ -73,4 +77,5 @@ width-of-spec =
     returns-9
     returns-10
     returns-11
-    returns-12)
+    returns-12
+    returns-13)

@@ -4,10 +4,10 @@ use Rattle.small_plans.proofs.encode.plan.Statement.{statement}
 use Rattle.small_plans.proofs.encode.plan.Tie as tie
 
 abbrev Inv-loop : tie.InvT-loop
-Inv-loop out₀ m n teams start end₀ t₀ out end t = t ≤ n
+Inv-loop out₀ m n teams glued start end₀ t₀ out end t = t ≤ n
 
 abbrev μ-loop : tie.MeasureT-loop
-μ-loop out₀ m n teams start end₀ t₀ out end t = n - t
+μ-loop out₀ m n teams glued start end₀ t₀ out end t = n - t
 
 cast-three : tie.Need-cast-three Inv-loop μ-loop
 cast-three c = search needs
@@ -26,6 +26,12 @@ mul-one c = search needs
 
 array-copy-out-one : tie.Need-array-copy-out-one Inv-loop μ-loop
 array-copy-out-one c = search needs
+
+mul-team : tie.Need-mul-team Inv-loop μ-loop
+mul-team c = search needs
+
+array-read-team : tie.Need-array-read-team Inv-loop μ-loop
+array-read-team c = search needs
 
 team-requires : tie.Need-team-requires Inv-loop μ-loop
 team-requires c κs = search needs
@@ -57,6 +63,8 @@ plan-spec =
     loop-holds
     mul-one
     array-copy-out-one
+    mul-team
+    array-read-team
     team-requires
     add-t
     loop-less

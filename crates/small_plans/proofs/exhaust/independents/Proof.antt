@@ -4,13 +4,13 @@ use Rattle.small_plans.proofs.exhaust.independents.Statement.{statement
 use Rattle.small_plans.proofs.exhaust.independents.Tie as tie
 
 abbrev Inv-loop : tie.InvT-loop
-Inv-loop team usable m all free₀ k₀ free k = k ≤ 32
+Inv-loop s m all free₀ k₀ free k = k ≤ 32
 
 abbrev μ-loop : tie.MeasureT-loop
-μ-loop team usable m all free₀ k₀ free k = 32 - k
+μ-loop s m all free₀ k₀ free k = 32 - k
 
-below-requires : tie.Need-below-requires Inv-loop μ-loop
-below-requires c κs = search needs
+all-below-requires : tie.Need-all-below-requires Inv-loop μ-loop
+all-below-requires c κs = search needs
 
 loop-holds : tie.Need-loop-holds Inv-loop μ-loop
 loop-holds c = search needs
@@ -42,7 +42,7 @@ independents-spec =
     (tie.spec
     Inv-loop
     μ-loop
-    below-requires
+    all-below-requires
     loop-holds
     minus-requires
     independent-requires

@@ -4,10 +4,10 @@ use Rattle.small_plans.proofs.exhaust.put_worths.Statement.{statement}
 use Rattle.small_plans.proofs.exhaust.put_worths.Tie as tie
 
 abbrev Inv-loop : tie.InvT-loop
-Inv-loop table₀ t usable m free k₀ table k = k ≤ 32
+Inv-loop table₀ t m free k₀ table k = k ≤ 32
 
 abbrev μ-loop : tie.MeasureT-loop
-μ-loop table₀ t usable m free k₀ table k = 32 - k
+μ-loop table₀ t m free k₀ table k = 32 - k
 
 independents-requires : tie.Need-independents-requires Inv-loop μ-loop
 independents-requires c κs = search needs

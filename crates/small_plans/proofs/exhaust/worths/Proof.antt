@@ -4,22 +4,16 @@ use Rattle.small_plans.proofs.exhaust.worths.Statement.{statement}
 use Rattle.small_plans.proofs.exhaust.worths.Tie as tie
 
 abbrev Inv-loop : tie.InvT-loop
-Inv-loop pool m n teams table₀ t₀ table t = t ≤ n
+Inv-loop d m n table₀ t₀ table t = t ≤ n
 
 abbrev μ-loop : tie.MeasureT-loop
-μ-loop pool m n teams table₀ t₀ table t = n - t
+μ-loop d m n table₀ t₀ table t = n - t
 
 loop-holds : tie.Need-loop-holds Inv-loop μ-loop
 loop-holds c = search needs
 
-mul-team : tie.Need-mul-team Inv-loop μ-loop
-mul-team c = search needs
-
-array-copy-out-team : tie.Need-array-copy-out-team Inv-loop μ-loop
-array-copy-out-team c = search needs
-
-usable-requires : tie.Need-usable-requires Inv-loop μ-loop
-usable-requires c κs = search needs
+site-requires : tie.Need-site-requires Inv-loop μ-loop
+site-requires c κs = search needs
 
 put-worths-requires : tie.Need-put-worths-requires Inv-loop μ-loop
 put-worths-requires c κs = search needs
@@ -43,9 +37,7 @@ worths-spec =
     Inv-loop
     μ-loop
     loop-holds
-    mul-team
-    array-copy-out-team
-    usable-requires
+    site-requires
     put-worths-requires
     add-t
     loop-less

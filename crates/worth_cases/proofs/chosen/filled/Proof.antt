@@ -6,10 +6,10 @@ use Rattle.worth_cases.proofs.chosen.filled.Statement.{statement}
 use Rattle.worth_cases.proofs.chosen.filled.Tie as tie
 
 abbrev Inv-loop : tie.InvT-loop
-Inv-loop bytes row₀ at₀ row at = length row ≡ 343
+Inv-loop bytes from row₀ at₀ row at = length row ≡ 343
 
 abbrev μ-loop : tie.MeasureT-loop
-μ-loop bytes row₀ at₀ row at = length bytes - at
+μ-loop bytes from row₀ at₀ row at = length bytes - at
 
 loop-holds : tie.Need-loop-holds Inv-loop μ-loop
 loop-holds c = search needs

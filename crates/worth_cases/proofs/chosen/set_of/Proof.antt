@@ -4,10 +4,10 @@ use Rattle.worth_cases.proofs.chosen.set_of.Statement.{statement}
 use Rattle.worth_cases.proofs.chosen.set_of.Tie as tie
 
 abbrev Inv-loop : tie.InvT-loop
-Inv-loop bytes set₀ k₀ set k = k ≤ 8
+Inv-loop bytes last set₀ k₀ set k = k ≤ 8
 
 abbrev μ-loop : tie.MeasureT-loop
-μ-loop bytes set₀ k₀ set k = 8 - k
+μ-loop bytes last set₀ k₀ set k = 8 - k
 
 loop-holds : tie.Need-loop-holds Inv-loop μ-loop
 loop-holds c = search needs

@@ -15,14 +15,8 @@ loop-holds c = search needs
 case-requires : tie.Need-case-requires Inv-loop μ-loop
 case-requires c κs = search needs
 
-with-worth-requires : tie.Need-with-worth-requires Inv-loop μ-loop
-with-worth-requires c κs = search needs
-
-with-gains-requires : tie.Need-with-gains-requires Inv-loop μ-loop
-with-gains-requires c κs = search needs
-
-with-usable-requires : tie.Need-with-usable-requires Inv-loop μ-loop
-with-usable-requires c κs = search needs
+with-case-requires : tie.Need-with-case-requires Inv-loop μ-loop
+with-case-requires c κs = search needs
 
 add-k : tie.Need-add-k Inv-loop μ-loop
 add-k c = search needs
@@ -44,9 +38,7 @@ tallied-spec =
     μ-loop
     loop-holds
     case-requires
-    with-worth-requires
-    with-gains-requires
-    with-usable-requires
+    with-case-requires
     add-k
     loop-less
     loop-again
