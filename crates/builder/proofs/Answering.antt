@@ -14,9 +14,8 @@ use Rattle.kinds.specs.declared.Valuation.{Valuation}
 use Rattle.plan.specs.Teams.{valuationsOf, present}
 use Rattle.plan.proofs.Valuing.{valued-long}
 use Rattle.plan.proofs.Present.{away-row}
-use Rattle.engine.specs.Fill.{ValidAgents}
+use Rattle.engine.specs.Fill.{ValidAgents, given}
 use Rattle.engine.specs.Level.{Away}
-use Rattle.engine.specs.Share.{Counted}
 use Rattle.engine.specs.Divide.{Divided}
 use Rattle.command.proofs.Mapped.{first-mapped}
 use Rattle.sheet.specs.Layout.{lengthOf}
@@ -69,7 +68,8 @@ module _ (plan before : List ℕ) (r : Reading) (is : r ≡ readPlan plan) where
 
   -- what is written is accepted
   pub sheet-wrote : (valid : Valid r) → r .refusal ≡ 0 → (long : ℕ) → long ≡ lengthOf (r .m) (r .n) → long ≤ length before → (row : List Valuation) → row ≡ valuationsOf r → (here : Set) → here ≡ present r
-      → (after : List ℕ) (total : ℕ) (d : Division) → Written before after (r .m) (r .n) total d → Divided (record { m = r .m; n = r .n; valuations = row }) here d → Counted (d .holding) total
+      → (after : List ℕ) (total : ℕ) (d : Division) → Written before after (r .m) (r .n) total d → Divided (record { m = r .m; n = r .n; valuations = row }) here d
+      → total ≡ given (record { m = r .m; n = r .n; valuations = row }) (d .holding .owner)
       → Answered plan before after (Wrote long)
   sheet-wrote valid z long e l row same here is-here after total d w by-here count =
       let room = rw e at l in

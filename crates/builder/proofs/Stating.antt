@@ -1,6 +1,6 @@
 -- What is written of a division states the facts that Check asks for.
 use Prim.Native.Nat.{ℕ, _+_, _-_, _*_, _/_, _%_, _^_, _≤_, _<_}
-use mathlib.Core.Path.{_≡_, refl, sym, ap, ap₂, _∙_, subst, subst⁻¹, fun-ext}
+use mathlib.Core.Path.{_≡_, refl, sym, ap, _∙_, subst, subst⁻¹, fun-ext}
 use mathlib.Core.Bool.{true}
 use mathlib.Core.Logic.{inl, inr}
 use mathlib.Core.List.{List}
@@ -26,11 +26,10 @@ use Rattle.plan.proofs.Valuing.{matroids-of}
 use Rattle.engine.specs.declared.divide.Division.{Division}
 use Rattle.exchange.specs.Agents.{holder, Held}
 use Rattle.engine.specs.Fill.{given}
-use Rattle.engine.specs.Share.{Counted}
 use Rattle.engine.specs.declared.share.Shared.{Shared}
 use Rattle.engine.specs.Divide.{noShare, Divided}
 use Rattle.exchange.proofs.Words.{indep-alike}
-use Rattle.engine.proofs.Sharing.{given-count, held-agent}
+use Rattle.engine.proofs.Sizes.{given-held}
 use Rattle.sheet.specs.Layout.{lengthOf, boundStart, pageLength, shareStart, partStart}
 use Rattle.sheet.proofs.Places.{share-first, end-last}
 use Rattle.sheet.specs.Fields.{totalAt, holderAt, boundAt, shareAt, setAt, partAt}
@@ -70,7 +69,7 @@ page-part t k one =
 
 module _ (r : Reading) (valid : Valid r) (row : List Valuation) (same : row ≡ valuationsOf r) (read : r .refusal ≡ 0) (before after : List ℕ) (total : ℕ) (d : Division)
     (w : Written before after (r .m) (r .n) total d) (room : lengthOf (r .m) (r .n) ≤ length before)
-    (div : Divided (record { m = r .m; n = r .n; valuations = row }) (present r) d) (count : Counted (d .holding) total) where
+    (div : Divided (record { m = r .m; n = r .n; valuations = row }) (present r) d) (count : total ≡ given (record { m = r .m; n = r .n; valuations = row }) (d .holding .owner)) where
   abbrev m : ℕ
   m = r .m
 
@@ -215,10 +214,7 @@ module _ (r : Reading) (valid : Valid r) (row : List Valuation) (same : row ≡ 
       (record { at = λ k b x. subst (λ (y : ℕ). T (eqb y p)) (part-is t l k b) x }) (record { at = λ k b x. subst⁻¹ (λ (y : ℕ). T (eqb y p)) (part-is t l k b) x })
 
   count-is : total ≡ size m (held n D)
-  count-is = count .is ∙ ap₂ size (hold .m) (fun-ext (held-agent (record { m = r .m; n = r .n; valuations = row }) (d .holding) hold))
-
-  given-is : total ≡ given (record { m = r .m; n = r .n; valuations = row }) (d .holding .owner)
-  given-is = given-count _ (d .holding) total hold count
+  count-is = count ∙ given-held (record { m = r .m; n = r .n; valuations = row }) (d .holding .owner)
 
   pub states : Stated r sheet
   states = record {
@@ -228,7 +224,7 @@ module _ (r : Reading) (valid : Valid r) (row : List Valuation) (same : row ≡ 
     independent = λ t l. subst (λ (M : ℕ → Matroid m). M t .Indep (bundle (holderAt sheet) t)) teams (indep-alike (agent t) (bundle D t) (bundle (holderAt sheet) t) (same-bundle t) (hold .sound t l));
     given = total-at ∙ count-is ∙ sym same-held;
     bound =
-        total-at ∙ given-is ∙ div .full .full
+        total-at ∙ count ∙ div .full .full
         ∙ subst
         (λ (M : ℕ → Matroid m). size m (complement (bit (d .bound))) + sum n (λ t. worth (agent t) (bit (d .bound))) ≡ size m (complement (bit (boundAt m sheet))) + sum n (λ t. worth (M t) (bit (boundAt m sheet))))
         teams (rw bound-at refl);

@@ -33,7 +33,7 @@ pub fn build(plan: &[u8], buffer: &mut [u8]) -> Built
     };
     let d = engine::divide::divide(agents, plan::present_of(r));
     let h = d.holding;
-    let total = engine::share::count_given(h) as u8;
+    let total = h.total() as u8;
     write::write_sheet(buffer, r.m, r.n, total, d);
     Built::Wrote(long)
 }

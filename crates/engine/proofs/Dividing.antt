@@ -88,26 +88,26 @@ targets-more shares t r next l a is = rw is (record {
 })
 
 -- shares can be targets, since every set bounds them
-pub divide-levellable : (s : Agents) (present : Set) (h : Holding) (k : ℕ) (shares : List Shared) (targets : List ℕ) → Away s present → Full s h k → AllShares s present (s .n) shares → Targets shares (s .n) targets
-    → Levellable s h targets
-divide-levellable s present h k shares targets away f a t = record {
+pub divide-levellable : (s : Agents) (present : Set) (h : Holding) (k : ℕ) (shares : List Shared) (targets : List ℕ) → Away s present → Full s h k × (h .shares ≡ targets) → AllShares s present (s .n) shares → Targets shares (s .n) targets
+    → Levellable s h
+divide-levellable s present h k shares targets away (f, measured) a t = record {
   bound = k;
   full = f;
   present = present;
   away = away;
-  none = λ i l gone. t .at i l ∙ ap (λ (x : Shared). x .share) (a .away i l gone);
+  none = λ i l gone. ap (λ (row : List ℕ). getD row i 0) measured ∙ t .at i l ∙ ap (λ (x : Shared). x .share) (a .away i l gone);
   allowed = λ i l here R.
-      let e = t .at i l ∙ a .at i l here .is in
+      let e = ap (λ (row : List ℕ). getD row i 0) measured ∙ t .at i l ∙ a .at i l here .is in
       let times = ap (λ (x : ℕ). size (s .n) present * x) e in
       let bound = share-allowed (agentMatroid s i) (size (s .n) present) (present-some (s .n) present i l here) R in
       omega arith;
 }
 
 -- the levelled holding with the bound and the shares is the division
-pub divides : (s : Agents) (present : Set) (start h : Holding) (k : ℕ) (shares : List Shared) (targets : List ℕ) → Full s start k → AllShares s present (s .n) shares → Targets shares (s .n) targets → Levelled s start targets h
+pub divides : (s : Agents) (present : Set) (start h : Holding) (k : ℕ) (shares : List Shared) (targets : List ℕ) → Full s start k × (start .shares ≡ targets) → AllShares s present (s .n) shares → Targets shares (s .n) targets → Levelled s start h
     → Divided s present (record { holding = h; bound = k; shares = shares })
-divides s present start h k shares targets f a t l = record {
+divides s present start h k shares targets (f, measured) a t l = record {
   full = record { held = l .held; low = f .low; full = l .same ∙ f .full };
   shares = a;
-  reached = λ i b. let e = t .at i b in let r = l .reached i b in omega arith;
+  reached = λ i b. let e = ap (λ (row : List ℕ). getD row i 0) measured ∙ t .at i b in let r = l .reached i b in omega arith;
 }

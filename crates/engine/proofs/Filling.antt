@@ -1,19 +1,19 @@
 -- The loops of `worthless` and of `fill`.
 use Prim.Native.Nat.{ℕ, _-_, _≤_, _<_}
-use mathlib.Core.Path.{_≡_, refl, sym, ap, _∙_, subst, subst⁻¹}
+use mathlib.Core.Path.{_≡_, sym, ap, _∙_, subst, subst⁻¹}
 use mathlib.Core.Bool.{Bool, true, false, _&&_, not, Bool·not-not}
 use mathlib.Core.Logic.{inl, inr}
 use mathlib.Core.List.{List}
 use native.Mathlib.Omega.{arith}
 use native.Mathlib.Decide.{decLt}
-use lib.Dec.{T, eqb, ltb, ltb→lt, lt→ltb, T-not, not-T}
-use lib.ListN.{getD, replicate, getD-replicate, List·getD-eq-default}
-use borrow.Author.Tests.{lt-ltb, le-ltb, ltb-false, ne-eqb}
+use lib.Dec.{T, ltb, ltb→lt, lt→ltb, T-not, not-T}
+use lib.ListN.{getD}
+use borrow.Author.Tests.{lt-ltb, le-ltb, ltb-false}
 use Rattle.matroid.specs.Taut.{decide-T, T→false, both, and-left, and-right}
 use Rattle.matroid.specs.Set.{Set, none, _∖_, complement, under}
 use Rattle.matroid.specs.SetLaws.{size-none, size-same, size-agree}
 use Rattle.matroid.specs.Matroid.{Matroid, worth}
-use Rattle.matroid.specs.Division.{bundle, held}
+use Rattle.matroid.specs.Division.{held}
 use Rattle.matroid.proofs.Sums.{sum-same, sum-const}
 use Rattle.matroid.proofs.Rank.{worth-same, worth-le-size}
 use Rattle.matroid.proofs.Certificates.{fill-certificate}
@@ -24,7 +24,7 @@ use Rattle.kinds.specs.declared.Valuation.{Valuation}
 use Rattle.kinds.specs.Valuations.{matroidOf}
 use Rattle.holding.specs.declared.Holding.{Holding}
 use Rattle.holding.specs.declared.Moves.{Moves}
-use Rattle.holding.specs.Give.{holderOf, allInPool}
+use Rattle.holding.specs.Give.{holderOf}
 use Rattle.holding.specs.Words.{Pool}
 use Rattle.holding.specs.Chain.{chained}
 use Rattle.exchange.specs.declared.Agents.{Agents}
@@ -48,25 +48,6 @@ ready-of s h words held b = record {
   sound = held .sound;
   words = subst (λ (m : ℕ). Bundles m (holder (h .owner)) words) (held .m) b;
 }
-
--- nobody holds anything of an empty holding
-empty-holder : (g : ℕ) → _≡_ {A = ℕ} (getD (replicate 64 255) g 255) 255
-empty-holder g = elim (decLt g 64) [ yes l ↦ getD-replicate 64 g 255 255 l | no d ↦ List·getD-eq-default (replicate 64 255) 255 {n = g} (omega arith) ]
-
-pub held-empty : (s : Agents) (h : Holding) → ValidAgents s → h ≡ allInPool (s .m) (s .n) → Held s h
-held-empty s h valid e = rw e (record {
-  m = refl;
-  n = refl;
-  small = valid .small;
-  few = valid .few;
-  valuations-long = valid .valuations-long;
-  owner-long = refl;
-  placed = λ g. inl (empty-holder g);
-  sound = λ t l. agentMatroid s t .part (record { at = λ g b x. absurd (subst T (nobody t g l) x) }) (agentMatroid s t .empty);
-})
-  where
-    nobody : (t g : ℕ) → t < s .n → bundle (holder (replicate 64 255)) t g ≡ false
-    nobody t g l = let few = valid .few in ap (λ (x : ℕ). eqb x t) (empty-holder g) ∙ ne-eqb 255 t (omega arith)
 
 -- the word of all instruments has instruments alone
 pub all-low : (m all : ℕ) → ((j : ℕ) → bit all j ≡ under m j) → (g : ℕ) → T (bit all g) → g < m
@@ -121,6 +102,10 @@ module _ (s : Agents) (h : Holding) (held : Held s h) (sources pool : ℕ) (is-s
     -- the bundles stay independent
     pub fill-held : Held s after
     fill-held = advanced .held
+
+    -- and the shares are those before
+    pub fill-shares : after .shares ≡ h .shares
+    fill-shares = advanced .shares
 
     -- and one more is given
     pub fill-less : s .m - given s (after .owner) < s .m - given s (h .owner)

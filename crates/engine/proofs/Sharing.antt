@@ -1,16 +1,15 @@
 -- Shares: what shows one, and how n agents of one valuation, filled and levelled, come to it.
 use Prim.Native.Nat.{ℕ, _+_, _*_, _/_, _≤_, _<_}
-use mathlib.Core.Path.{_≡_, refl, sym, ap, ap₂, _∙_, subst, fun-ext}
-use mathlib.Core.Bool.{Bool, true, _&&_, not, and-true, and-false, Bool·not-not}
+use mathlib.Core.Path.{_≡_, refl, ap, _∙_, subst}
+use mathlib.Core.Bool.{true}
 use mathlib.Core.List.{List}
 use native.Mathlib.Omega.{arith}
 use native.Mathlib.Nat.{mul-le-mul-left, div-add-mod', mod-lt}
 use native.Mathlib.Decide.{decLt, decLe, ℕ-discrete}
-use lib.Dec.{T, eqb→eq, ltb}
+use lib.Dec.{T, eqb→eq}
 use lib.ListN.{length, getD, set, replicate, length-set, getD-replicate, List·getD-eq-default}
 use lib.Seq.{getD-set-same, getD-set-other}
-use borrow.Author.Tests.{lt-ltb, le-ltb}
-use Rattle.matroid.specs.Set.{Set, _∖_, complement, under, size, Within}
+use Rattle.matroid.specs.Set.{Set, complement, size, Within}
 use Rattle.matroid.specs.SetLaws.{eq→eqb, size-all}
 use Rattle.matroid.specs.Sum.{sum}
 use Rattle.matroid.specs.Matroid.{Matroid, worth}
@@ -22,41 +21,41 @@ use Rattle.matroid.proofs.Rank.{worth-indep, worth-mono}
 use Rattle.matroid.proofs.Duality.{weak-duality}
 use Rattle.matroid.proofs.Shares.{share-most, share-bound}
 use Rattle.sets.specs.Bits.{bit}
-use Rattle.sets.proofs.Below.{size-under}
 use Rattle.kinds.specs.declared.Valuation.{Valuation}
 use Rattle.sets.proofs.Lists.{getD-any}
 use Rattle.holding.specs.declared.Holding.{Holding}
-use Rattle.holding.specs.Give.{holderOf, isInstrument, isTeam, inPool}
-use Rattle.holding.specs.Words.{Pool}
+use Rattle.holding.specs.Give.{measuredBy}
+use Rattle.holding.proofs.Counting.{counted-right}
 use Rattle.kinds.specs.Valuations.{matroidOf, matroids, blankValuation}
 use Rattle.exchange.specs.declared.Agents.{Agents}
 use Rattle.exchange.specs.Agents.{agentMatroid, holder, Held}
 use Rattle.engine.specs.Fill.{given, Full}
 use Rattle.engine.specs.Level.{Levellable, Levelled}
-use Rattle.engine.specs.Share.{Counted, Parted, ShareOf}
-use Rattle.exchange.proofs.Words.{team-agent}
-use Rattle.engine.proofs.Sizes.{given-held}
+use Rattle.engine.specs.Share.{Parted, ShareOf}
 
--- ---- counting what is given
+-- ---- other shares
 
-pub counted : (h : Holding) (all pool rest r : ℕ) → h .m ≤ 64 → ((j : ℕ) → bit all j ≡ under (h .m) j) → Pool h pool → ((j : ℕ) → bit rest j ≡ (bit all ∖ bit pool) j) → r ≡ size 64 (bit rest) → Counted h r
-unfolding isInstrument
-counted h all pool rest r small is-all is-pool is-rest e = record {
-  is = e ∙ ap (size 64) (fun-ext (λ j. is-rest j ∙ step j (inPool h j) (decLt j (h .m)) (is-pool .at j))) ∙ size-under 64 (h .m) (λ g. not (inPool h g)) small;
-}
-  where
-    step : (j : ℕ) (b : Bool) → Dec (j < h .m) → bit pool j ≡ (isInstrument h j && b) → (bit all ∖ bit pool) j ≡ (not b && ltb j (h .m))
-    step j b (yes l) q = rw (is-all j, q, lt-ltb j (h .m) l, lt-ltb j 64 (omega arith)) (sym (and-true (not b)))
-    step j b (no d) q = rw (is-all j, le-ltb j (h .m) (omega arith)) (sym (and-false (not b)))
+-- the same bundles measured against other shares
+pub full-measured : (s : Agents) (h m : Holding) (k : ℕ) (shares : List ℕ) → Full s h k → m ≡ measuredBy h shares → Full s m k
+full-measured s h m k shares f is = rw is (record {
+  held = record {
+    m = f .held .m;
+    n = f .held .n;
+    small = f .held .small;
+    few = f .held .few;
+    valuations-long = f .held .valuations-long;
+    owner-long = f .held .owner-long;
+    placed = f .held .placed;
+    sound = f .held .sound;
+    right = counted-right (h .m) (h .n) (h .owner) shares;
+  };
+  low = f .low;
+  full = f .full;
+})
 
--- what is not in the pool is with an agent
-pub held-agent : (s : Agents) (h : Holding) → Held s h → (g : ℕ) → not (inPool h g) ≡ ltb (holder (h .owner) g) (s .n)
-unfolding inPool holderOf
-held-agent s h hd g = Bool·not-not (isTeam h (holder (h .owner) g)) ∙ team-agent s h hd (holder (h .owner) g)
-
--- it is what the agents hold
-pub given-count : (s : Agents) (h : Holding) (r : ℕ) → Held s h → Counted h r → r ≡ given s (h .owner)
-given-count s h r hd c = c .is ∙ ap₂ size (hd .m) (fun-ext (held-agent s h hd)) ∙ sym (given-held s (h .owner))
+-- as many are given
+pub measured-given : (s : Agents) (h m : Holding) (shares : List ℕ) → m ≡ measuredBy h shares → given s (h .owner) ≡ given s (m .owner)
+measured-given s h m shares is = rw is refl
 
 -- ---- the cut
 
@@ -149,9 +148,9 @@ module _ (m n : ℕ) (v : Valuation) (small : m ≤ 64) (some : 1 ≤ n) (few : 
       let sizes = sum-same n (λ t. worth (agentMatroid agentsOf t) (bundle (holder (h .owner)) t)) (λ t. size m (bundle (holder (h .owner)) t)) (λ t l. worth-indep (agentMatroid agentsOf t) (bundle (holder (h .owner)) t) (hd .sound t l)) in
       omega arith
 
-  -- the quotient of what is given can be every agent's target, and all are present
-  pub share-levellable : (h : Holding) (k s : ℕ) (targets : List ℕ) → Full agentsOf h k → s ≡ given agentsOf (h .owner) / n → targets ≡ replicate 12 s → Levellable agentsOf h targets
-  share-levellable h k s targets f e is = record {
+  -- the quotient of what is given can be every agent's share, and all are present
+  pub share-levellable : (h : Holding) (k s : ℕ) → Full agentsOf h k → s ≡ given agentsOf (h .owner) / n → h .shares ≡ replicate 12 s → Levellable agentsOf h
+  share-levellable h k s f e is = record {
     bound = k;
     full = f;
     present = λ _. true;
@@ -160,15 +159,15 @@ module _ (m n : ℕ) (v : Valuation) (small : m ≤ 64) (some : 1 ≤ n) (few : 
     allowed = λ t l _ R.
         let bound = given-bound h R (f .held) in
         let div = div-add-mod' (given agentsOf (h .owner)) n in
-        let target : getD targets t 0 ≡ s = ap (λ (x : List ℕ). getD x t 0) is ∙ getD-replicate 12 t s 0 (omega arith) in
+        let target : getD (h .shares) t 0 ≡ s = ap (λ (x : List ℕ). getD x t 0) is ∙ getD-replicate 12 t s 0 (omega arith) in
         let times = ap (λ (x : ℕ). n * x) (target ∙ e) in
         let same = ap (λ (X : Matroid m). n * worth X (complement R)) (alike m n v t l few) in
         rw (size-all n (λ _. true) (λ _ _. tt)) (omega arith);
   }
 
   -- the agents are levelled to it, and their bundles cut into parts
-  module _ (f h : Holding) (k s : ℕ) (targets part : List ℕ) (full : Full agentsOf f k) (e : s ≡ given agentsOf (f .owner) / n) (is : targets ≡ replicate 12 s)
-      (levelled : Levelled agentsOf f targets h) (parted : Parted (h .owner) n m part) where
+  module _ (f h : Holding) (k s : ℕ) (part : List ℕ) (full : Full agentsOf f k) (e : s ≡ given agentsOf (f .owner) / n) (is : f .shares ≡ replicate 12 s)
+      (levelled : Levelled agentsOf f h) (parted : Parted (h .owner) n m part) where
     abbrev cutOf : ℕ → ℕ
     cutOf g = getD part g 0
 
@@ -192,7 +191,7 @@ module _ (m n : ℕ) (v : Valuation) (small : m ≤ 64) (some : 1 ≤ n) (few : 
 
     fair : (t : ℕ) → t < n → s ≤ worth M (bundle cutOf t)
     fair t l =
-        let target : getD targets t 0 ≡ s = ap (λ (x : List ℕ). getD x t 0) is ∙ getD-replicate 12 t s 0 (omega arith) in
+        let target : getD (f .shares) t 0 ≡ s = ap (λ (x : List ℕ). getD x t 0) is ∙ getD-replicate 12 t s 0 (omega arith) in
         let reached = levelled .reached t l in
         let indep = subst (λ (X : Matroid m). X .Indep (bundle (holder (h .owner)) t)) (alike m n v t l few) (levelled .held .sound t l) in
         let same = worth-indep M (bundle (holder (h .owner)) t) indep in

@@ -1,11 +1,13 @@
--- How many instruments the agents hold, and how a chain changes the sizes of the bundles.
-use Prim.Native.Nat.{ℕ, zero, suc, _+_, _≤_, _<_}
+-- Sizes and shortfall as the holding carries them, how many instruments the agents hold, and how a chain changes the sizes of the bundles.
+use Prim.Native.Nat.{ℕ, zero, suc, _+_, _≤_, _<_, min}
 use mathlib.Core.Path.{_≡_, refl, sym, ap, _∙_, fun-ext}
 use mathlib.Core.Bool.{true, and-true}
 use mathlib.Core.List.{List}
 use native.Mathlib.Omega.{arith}
 use native.Mathlib.Decide.{ℕ-discrete}
 use lib.Dec.{eqb}
+use lib.ListN.{getD}
+use borrow.Author.Tests.{lt-ltb}
 use Rattle.matroid.specs.Set.{Set, _∩_, one, size}
 use Rattle.matroid.specs.SetLaws.{one-eq, one-ne}
 use Rattle.matroid.specs.Sum.{sum}
@@ -13,12 +15,57 @@ use Rattle.matroid.specs.Division.{bundle, held}
 use Rattle.matroid.specs.DivisionLaws.{sum-bundles}
 use Rattle.matroid.proofs.Sets.{size-le}
 use Rattle.matroid.proofs.Sums.{sum-add, sum-same}
+use Rattle.matroid.specs.Shortfall.{shortfall}
 use Rattle.matroid.proofs.Carrying.{carry-size}
+use Rattle.matroid.proofs.Shortfalls.{shortfall-same}
 use Rattle.holding.specs.declared.Holding.{Holding}
+use Rattle.holding.specs.Count.{sizeIn}
+use Rattle.holding.specs.Give.{isTeam}
+use Rattle.holding.proofs.Counting.{size-at}
 use Rattle.exchange.specs.declared.Agents.{Agents}
-use Rattle.exchange.specs.Agents.{holder}
+use Rattle.exchange.specs.Agents.{holder, Held}
+use Rattle.exchange.proofs.Words.{team-agent}
 use Rattle.engine.specs.Fill.{given}
 use Rattle.exchange.proofs.Advance.{Advanced}
+
+-- ---- what the holding carries
+
+module _ (s : Agents) (h : Holding) (hd : Held s h) where
+  -- an agent is a team
+  agent-team : (t : ℕ) → t < s .n → isTeam h t ≡ true
+  agent-team t l = team-agent s h hd t ∙ lt-ltb t (s .n) l
+
+  -- a fresh count of a bundle's size, by the agents' instruments
+  count-size : (t : ℕ) → sizeIn (h .m) (h .owner) t ≡ size (s .m) (bundle (holder (h .owner)) t)
+  unfolding sizeIn
+  count-size t =
+      let em = hd .m in
+      let small = hd .small in
+      let same : min (h .m) 64 ≡ s .m = omega arith in
+      ap (λ (m : ℕ). size m (bundle (holder (h .owner)) t)) same
+
+  -- the size of an agent's bundle
+  pub held-size : (t : ℕ) → t < s .n → getD (h .sizes) t 0 ≡ size (s .m) (bundle (holder (h .owner)) t)
+  held-size t l = size-at h (hd .right) t (agent-team t l) ∙ count-size t
+
+  agents : min (h .n) 12 ≡ s .n
+  agents = let en = hd .n in let few = hd .few in omega arith
+
+  -- and the shortfall
+  pub held-shortfall : h .shortfall ≡ shortfall (s .n) (λ t. getD (h .shares) t 0) (λ t. size (s .m) (bundle (holder (h .owner)) t))
+  held-shortfall =
+      hd .right .shortfall
+      ∙ shortfall-same (min (h .n) 12) (λ t. getD (h .shares) t 0) (sizeIn (h .m) (h .owner)) (λ t. size (s .m) (bundle (holder (h .owner)) t)) (λ t _. count-size t)
+      ∙ ap (λ (n : ℕ). shortfall n (λ t. getD (h .shares) t 0) (λ t. size (s .m) (bundle (holder (h .owner)) t))) agents
+
+  -- the sum of the sizes is what the agents hold
+  pub held-total : (r : ℕ) → r ≡ sum (min (h .n) 12) (sizeIn (h .m) (h .owner)) → r ≡ given s (h .owner)
+  unfolding given
+  held-total r is =
+      is ∙ sum-same (min (h .n) 12) (sizeIn (h .m) (h .owner)) (λ t. size (s .m) (bundle (holder (h .owner)) t)) (λ t _. count-size t)
+      ∙ ap (λ (n : ℕ). sum n (λ t. size (s .m) (bundle (holder (h .owner)) t))) agents
+
+-- ---- how many are given
 
 -- among the numbers below n, i is one, and none where it is not below n
 sum-out : (n i : ℕ) → n ≤ i → sum n (λ t. one (eqb i t)) ≡ 0

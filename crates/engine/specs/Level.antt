@@ -15,36 +15,32 @@ use Rattle.exchange.specs.declared.Agents.{Agents}
 use Rattle.exchange.specs.Agents.{agentMatroid, holder, Held}
 use Rattle.engine.specs.Fill.{given, Full}
 
--- the size of word t
-unfoldable pub wordSize : List ℕ → ℕ → ℕ
-wordSize bundles t = size 64 (bit (getD bundles t 0))
-
--- r is the lowest agent below n whose word is smaller than its target, or n
-pub record FirstShort (bundles targets : List ℕ) (n r : ℕ) : Type 0 where
+-- r is the lowest agent below n whose size is smaller than its share, or n
+pub record FirstShort (sizes shares : List ℕ) (n r : ℕ) : Type 0 where
   pub top : r ≤ n
-  pub before : (t : ℕ) → t < r → getD targets t 0 ≤ wordSize bundles t
-  pub short : r < n → wordSize bundles r < getD targets r 0
+  pub before : (t : ℕ) → t < r → getD shares t 0 ≤ getD sizes t 0
+  pub short : r < n → getD sizes r 0 < getD shares r 0
 
--- r holds the words of the agents below n that are larger than their targets
-pub record Above (bundles targets : List ℕ) (n r : ℕ) : Type 0 where
-  pub at : (j : ℕ) → T (bit r j) ↔ ((t : ℕ) × (t < n) × ((getD targets t 0 < wordSize bundles t) × T (bit (getD bundles t 0) j)))
+-- r holds the words of the agents below n whose sizes are larger than their shares
+pub record Above (sizes shares bundles : List ℕ) (n r : ℕ) : Type 0 where
+  pub at : (j : ℕ) → T (bit r j) ↔ ((t : ℕ) × (t < n) × ((getD shares t 0 < getD sizes t 0) × T (bit (getD bundles t 0) j)))
 
 -- to an agent that is away every set is worth nothing
 pub record Away (s : Agents) (present : Set) : Type 0 where
   pub idle : (t : ℕ) → t < s .n → T (not (present t)) → (S : Set) → worth (agentMatroid s t) S ≡ 0
 
--- A holding of greatest total, and targets that every set allows: with p agents present, p × target is at most (members of R) + p × v(outside R).
--- An agent that is away has no target.
-pub record Levellable (s : Agents) (h : Holding) (targets : List ℕ) : Type 0 where
+-- A holding of greatest total, measured against shares that every set allows: with p agents present, p × share is at most (members of R) +
+-- p × v(outside R). The share of an agent that is away is 0.
+pub record Levellable (s : Agents) (h : Holding) : Type 0 where
   pub bound : ℕ
   pub full : Full s h bound
   pub present : Set
   pub away : Away s present
-  pub none : (t : ℕ) → t < s .n → T (not (present t)) → getD targets t 0 ≡ 0
-  pub allowed : (t : ℕ) → t < s .n → T (present t) → (R : Set) → size (s .n) present * getD targets t 0 ≤ size (s .m) R + size (s .n) present * worth (agentMatroid s t) (complement R)
+  pub none : (t : ℕ) → t < s .n → T (not (present t)) → getD (h .shares) t 0 ≡ 0
+  pub allowed : (t : ℕ) → t < s .n → T (present t) → (R : Set) → size (s .n) present * getD (h .shares) t 0 ≤ size (s .m) R + size (s .n) present * worth (agentMatroid s t) (complement R)
 
--- every bundle is independent, as many are given as before, and every agent has its target
-pub record Levelled (s : Agents) (before : Holding) (targets : List ℕ) (h : Holding) : Type 0 where
+-- every bundle is independent, as many are given as before, and every agent has its share
+pub record Levelled (s : Agents) (before h : Holding) : Type 0 where
   pub held : Held s h
   pub same : given s (h .owner) ≡ given s (before .owner)
-  pub reached : (t : ℕ) → t < s .n → getD targets t 0 ≤ size (s .m) (bundle (holder (h .owner)) t)
+  pub reached : (t : ℕ) → t < s .n → getD (before .shares) t 0 ≤ size (s .m) (bundle (holder (h .owner)) t)

@@ -2,7 +2,6 @@
 use Prim.Native.Nat.{ℕ, _+_, _*_, _≤_, _<_}
 use mathlib.Core.Path.{_≡_}
 use mathlib.Core.List.{List}
-use mathlib.Core.Bool.{not}
 use lib.Dec.{T}
 use lib.ListN.{getD}
 use Rattle.matroid.specs.Set.{complement, size}
@@ -11,14 +10,8 @@ use Rattle.matroid.specs.Division.{bundle}
 use Rattle.matroid.specs.Share.{share}
 use Rattle.sets.specs.Bits.{bit}
 use Rattle.kinds.specs.declared.Valuation.{Valuation}
-use Rattle.holding.specs.declared.Holding.{Holding}
-use Rattle.holding.specs.Give.{inPool}
 use Rattle.kinds.specs.Valuations.{matroidOf}
 use Rattle.engine.specs.declared.share.Shared.{Shared}
-
--- r is the number of instruments that are not in the pool
-pub record Counted (h : Holding) (r : ℕ) : Type 0 where
-  pub is : r ≡ size (h .m) (λ g. not (inPool h g))
 
 -- below k, part g is the owner of g where that is an agent, and 0 elsewhere
 pub record Parted (owner : List ℕ) (n k : ℕ) (r : List ℕ) : Type 0 where

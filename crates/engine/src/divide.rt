@@ -67,7 +67,7 @@ pub fn divide(s: Agents, here: u64) -> Division
     let f = fill(s, targets);
     let start = f.holding;
     let bound = f.bound;
-    let holding = level(s, start, targets);
+    let holding = level(s, start);
     Division {
         holding,
         bound,

@@ -34,10 +34,10 @@ fn worthless(s: Agents, set: u64) -> bool
     true
 }
 
-// A holding of greatest total among the agents, with its certificate. The quotas are for the start alone.
+// A holding of greatest total among the agents, with its certificate, measured against the quotas. They decide nothing but the start.
 pub fn fill(s: Agents, quotas: [u8; 12]) -> Filled
     requires { ⌜ ValidAgents s ⌝ }
-    ensures { λ r. ⌜ Full s (r .holding) (r .bound) ⌝ }
+    ensures { λ r. ⌜ Full s (r .holding) (r .bound) × (r .holding .shares ≡ quotas) ⌝ }
 {
     let m = s.m;
     let sources = sets::all_below(s.n);

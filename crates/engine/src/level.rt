@@ -1,4 +1,4 @@
-// Level: chains from each short agent to an agent above its target, until nobody is short.
+// Level: chains from each short agent to an agent above its share, until the shortfall is 0.
 ghost use Prim.Native.Nat.{_≤_};
 ghost use Rattle.engine.specs.Level.{FirstShort, Above, Levellable, Levelled};
 use exchange::Agents;
@@ -6,15 +6,14 @@ use exchange::chains::moves_back;
 use exchange::search::search;
 use holding::Holding;
 
-// The lowest of n agents that holds fewer than its target, or n.
-fn first_short(bundles: [u64; 12], targets: [u8; 12], n: usize) -> usize
+// The lowest of n agents that holds fewer than its share, or n.
+fn first_short(sizes: [u8; 12], shares: [u8; 12], n: usize) -> usize
     requires { ⌜ n ≤ 12 ⌝ }
-    ensures { λ r. ⌜ FirstShort bundles targets n r ⌝ }
+    ensures { λ r. ⌜ FirstShort sizes shares n r ⌝ }
 {
     let mut t: usize = 0;
     while t < n {
-        let most = targets[t] as usize;
-        if sets::size(bundles[t]) < most {
+        if sizes[t] < shares[t] {
             return t;
         }
         t += 1;
@@ -22,36 +21,38 @@ fn first_short(bundles: [u64; 12], targets: [u8; 12], n: usize) -> usize
     n
 }
 
-// The instruments of the agents that hold more than their targets.
-fn above(bundles: [u64; 12], targets: [u8; 12], n: usize) -> u64
+// The instruments of the agents that hold more than their shares.
+fn above(sizes: [u8; 12], shares: [u8; 12], bundles: [u64; 12], n: usize) -> u64
     requires { ⌜ n ≤ 12 ⌝ }
-    ensures { λ r. ⌜ Above bundles targets n r ⌝ }
+    ensures { λ r. ⌜ Above sizes shares bundles n r ⌝ }
 {
     let mut rich: u64 = 0;
     for t in 0..n {
-        let most = targets[t] as usize;
-        if most < sets::size(bundles[t]) {
+        if shares[t] < sizes[t] {
             rich = sets::either(rich, bundles[t]);
         }
     }
     rich
 }
 
-// A holding of the same total in which every agent has its target.
-pub fn level(s: Agents, start: Holding, targets: [u8; 12]) -> Holding
-    requires { ⌜ Levellable s start targets ⌝ }
-    ensures { λ r. ⌜ Levelled s start targets r ⌝ }
+// A holding of the same total in which every agent has the share it is measured against.
+pub fn level(s: Agents, start: Holding) -> Holding
+    requires { ⌜ Levellable s start ⌝ }
+    ensures { λ r. ⌜ Levelled s start r ⌝ }
 {
     let n = s.n;
     let mut h = start;
     loop {
-        let owner = h.owner;
-        let bundles = h.bundles();
-        let i = first_short(bundles, targets, n);
-        if i >= n {
+        if h.shortfall == 0 {
             return h;
         }
-        let r = search(s, owner, bundles, sets::only(i), above(bundles, targets, n));
+        let owner = h.owner;
+        let sizes = h.sizes;
+        let shares = h.shares;
+        let i = first_short(sizes, shares, n);
+        let bundles = h.bundles();
+        let rich = above(sizes, shares, bundles, n);
+        let r = search(s, owner, bundles, sets::only(i), rich);
         let trace = r.trace;
         let end = r.end;
         if !r.found {

@@ -1,13 +1,12 @@
 // The maximin share of a valuation. A deal of what no share exceeds is tried first; where it fails, n agents of the same valuation are filled
 // and levelled.
 ghost use Prim.Native.Nat.{_≤_};
-ghost use Rattle.engine.specs.Share.{Counted, Parted, ShareOf};
+ghost use Rattle.engine.specs.Share.{Parted, ShareOf};
 use super::deal::dealt;
 use super::deal::quota_of;
 use super::fill::fill;
 use super::level::level;
 use exchange::Agents;
-use holding::Holding;
 use kinds::Valuation;
 
 // A share, the set that bounds it, and a cut into parts each worth the share.
@@ -15,16 +14,6 @@ pub struct Shared {
     pub share: u8,
     pub bound: u64,
     pub part: [u8; 64],
-}
-
-// How many instruments are not in the pool.
-pub fn count_given(h: Holding) -> usize
-    requires { ⌜ h .m ≤ 64 ⌝ }
-    ensures { λ r. ⌜ Counted h r ⌝ }
-{
-    let m = h.m;
-    let all = sets::all_below(m);
-    sets::size(sets::minus(all, h.pool()))
 }
 
 // A cut of m instruments: what is in the pool joins part 0.
@@ -55,8 +44,8 @@ fn searched(v: Valuation, m: usize, n: usize, quota: u8) -> Shared
     let f = fill(s, [quota; 12]);
     let h = f.holding;
     let bound = f.bound;
-    let share = (count_given(h) / n) as u8;
-    let levelled = level(s, h, [share; 12]);
+    let share = (h.total() / n) as u8;
+    let levelled = level(s, h.measured([share; 12]));
     let owner = levelled.owner;
     let part = parts(owner, m, n);
     Shared { share, bound, part }

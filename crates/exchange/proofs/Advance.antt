@@ -17,7 +17,8 @@ use Rattle.holding.specs.declared.Holding.{Holding}
 use Rattle.holding.specs.declared.Moves.{Moves}
 use Rattle.holding.specs.Give.{holderOf}
 use Rattle.holding.specs.Chain.{itemAt, chained}
-use Rattle.holding.proofs.Applies.{Fit, chain-m, chain-n, chain-long, chain-moved, chain-kept}
+use Rattle.holding.proofs.Rights.{chained-right}
+use Rattle.holding.proofs.Applies.{Fit, chain-m, chain-n, chain-shares, chain-long, chain-moved, chain-kept}
 use Rattle.exchange.specs.declared.Agents.{Agents}
 use Rattle.exchange.specs.declared.search.Trace.{Trace}
 use Rattle.exchange.specs.Agents.{agentMatroid, holder, Held}
@@ -35,6 +36,7 @@ pub record Advanced (s : Agents) (h : Holding) (sources end : ℕ) (after : Hold
   pub below : All (λ k. k < s .m) (first ∷ rest)
   pub distinct : Distinct (first ∷ rest)
   pub moved : holder (after .owner) ≡ carry (holder (h .owner)) agent (first ∷ rest)
+  pub shares : after .shares ≡ h .shares
   pub held : Held s after
 
 -- the first k items, last first
@@ -196,6 +198,7 @@ module _ (s : Agents) (h : Holding) (held : Held s h) (sources : ℕ) (trace : T
           inr (rw (inside x a) (to-team (s .n) (agentMatroid s) (holder (h .owner)) (bit sources) (bit (trace .seen)) L (lab .traced) x (subst (λ (j : ℕ). T (bit (trace .seen) j)) e (back-all (λ j. T (bit (trace .seen) j)) item (fol .top) all-reached k l))))
       | inr o ↦ rw (outside x o) (held .placed x)
     ];
+    right = chained-right h moves (held .right);
     sound = subst⁻¹ (Sound (s .n) (agentMatroid s)) is-carried (carried-sound (s .n) (agentMatroid s) (holder (h .owner)) (bit sources) (bit (trace .seen)) L (lab .traced) end (item (fol .top)) (back item (fol .top)) top-walk top-root (held .sound));
   }
 
@@ -211,5 +214,6 @@ module _ (s : Agents) (h : Holding) (held : Held s h) (sources : ℕ) (trace : T
     below = below;
     distinct = distinct;
     moved = is-carried;
+    shares = chain-shares h moves;
     held = stays-held;
   }

@@ -8,6 +8,7 @@ use Rattle.matroid.specs.Matroid.{Matroid}
 use Rattle.matroid.specs.Exchange.{Sound}
 use Rattle.sets.specs.Bundles.{Bundles}
 use Rattle.holding.specs.declared.Holding.{Holding}
+use Rattle.holding.specs.Count.{Right}
 use Rattle.kinds.specs.Valuations.{matroids}
 use Rattle.exchange.specs.declared.Agents.{Agents}
 
@@ -28,7 +29,7 @@ pub record Ready (s : Agents) (owner bundles : List ℕ) : Type 0 where
   pub sound : Sound (s .n) (agentMatroid s) (holder owner)
   pub words : Bundles (s .m) (holder owner) bundles
 
--- A holding of the agents: every instrument is with an agent or in the pool, and every bundle is independent.
+-- A holding of the agents: every instrument is with an agent or in the pool, every bundle is independent, and sizes and shortfall are right.
 pub record Held (s : Agents) (h : Holding) : Type 0 where
   pub m : h .m ≡ s .m
   pub n : h .n ≡ s .n
@@ -38,3 +39,4 @@ pub record Held (s : Agents) (h : Holding) : Type 0 where
   pub owner-long : length (h .owner) ≡ 64
   pub placed : (g : ℕ) → (holder (h .owner) g ≡ 255) ⊎ (holder (h .owner) g < s .n)
   pub sound : Sound (s .n) (agentMatroid s) (holder (h .owner))
+  pub right : Right h

@@ -15,7 +15,7 @@ use Rattle.holding.specs.Give.{holderOf, isInstrument, isTeam, withOwner
 use Rattle.holding.specs.Chain.{itemAt, teamOf, mayMove, earlier, firstFit, movesFit, moved, carriedOut, chained}
 use Rattle.holding.proofs.Carried.{moved-long}
 
--- A chain leaves m, n and the length of the list of owners.
+-- A chain leaves m, n, the shares and the length of the list of owners.
 pub chain-m : (h : Holding) (moves : Moves) → chained h moves .m ≡ h .m
 unfolding chained
 chain-m h moves = go (movesFit h moves)
@@ -29,6 +29,14 @@ unfolding chained
 chain-n h moves = go (movesFit h moves)
   where
     go : (b : Bool) → cond b (carriedOut h moves) h .n ≡ h .n
+    go true = refl
+    go false = refl
+
+pub chain-shares : (h : Holding) (moves : Moves) → chained h moves .shares ≡ h .shares
+unfolding chained
+chain-shares h moves = go (movesFit h moves)
+  where
+    go : (b : Bool) → cond b (carriedOut h moves) h .shares ≡ h .shares
     go true = refl
     go false = refl
 

@@ -52,11 +52,14 @@ pub fit-few : (h : Holding) (moves : Moves) → movesFit h moves ≡ true → mo
 unfolding movesFit
 fit-few h moves e = leb-true (moves .count) 64 (and-left (leb (moves .count) 64) (firstFit h moves (moves .count)) e)
 
--- and each is of an instrument
-pub fit-item : (h : Holding) (moves : Moves) (k : ℕ) → movesFit h moves ≡ true → k < moves .count → itemAt moves k < 64
+-- each of them fits
+pub fit-move : (h : Holding) (moves : Moves) (k : ℕ) → movesFit h moves ≡ true → k < moves .count → mayMove h (itemAt moves k) (teamOf moves k) ≡ true
 unfolding movesFit
-fit-item h moves k e l =
-    move-below h (itemAt moves k) (teamOf moves k) (each-fits h moves (moves .count) k (and-right (leb (moves .count) 64) (firstFit h moves (moves .count)) e) l)
+fit-move h moves k e l = each-fits h moves (moves .count) k (and-right (leb (moves .count) 64) (firstFit h moves (moves .count)) e) l
+
+-- and is of an instrument
+pub fit-item : (h : Holding) (moves : Moves) (k : ℕ) → movesFit h moves ≡ true → k < moves .count → itemAt moves k < 64
+fit-item h moves k e l = move-below h (itemAt moves k) (teamOf moves k) (fit-move h moves k e l)
 
 -- at the start nothing is moved
 pub fits-none : (h : Holding) (moves : Moves) → Fitting h moves 0 0

@@ -1,7 +1,13 @@
 pub mod Tests
+pub mod Tables
+pub mod Counting
+pub mod Tallying
+pub mod Afresh
 pub mod Marks
 pub mod Words
 pub mod Fits
+pub mod Rights
 pub mod Carried
 pub mod Applies
 pub mod Restores
+pub mod Laws

@@ -23,7 +23,17 @@ pub instrument-below : (h : Holding) (g : ℕ) → isInstrument h g ≡ true →
 unfolding isInstrument
 instrument-below h g e = ltb-true g 64 (and-right (ltb g (h .m)) (ltb g 64) e)
 
+-- it is below m
+pub instrument-m : (h : Holding) (g : ℕ) → isInstrument h g ≡ true → g < h .m
+unfolding isInstrument
+instrument-m h g e = ltb-true g (h .m) (and-left (ltb g (h .m)) (ltb g 64) e)
+
 -- a team's number is a byte
 pub team-below : (h : Holding) (t : ℕ) → isTeam h t ≡ true → t < 12
 unfolding isTeam
 team-below h t e = ltb-true t 12 (and-right (ltb t (h .n)) (ltb t 12) e)
+
+-- it is below n
+pub team-n : (h : Holding) (t : ℕ) → isTeam h t ≡ true → t < h .n
+unfolding isTeam
+team-n h t e = ltb-true t (h .n) (and-left (ltb t (h .n)) (ltb t 12) e)

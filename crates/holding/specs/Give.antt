@@ -1,4 +1,4 @@
--- Give and return (document 01, "Worth and share").
+-- Give and return (document 01, "Worth and share"), which "leave both equal to a fresh count" (document 02, note 7).
 -- Instruments are the numbers below m and 64, teams those below n and 12; an instrument whose owner is no team is in the pool (255 is what
 -- is written there).
 use Prim.Native.Nat.{ℕ}
@@ -7,6 +7,7 @@ use mathlib.Core.List.{List}
 use lib.Dec.{ltb}
 use lib.ListN.{getD, set, replicate}
 use Rattle.holding.specs.declared.Holding.{Holding}
+use Rattle.holding.specs.Count.{counted}
 
 -- "A division gives each instrument to one team or leaves it in the pool": the owner of g
 unfoldable pub holderOf : Holding → ℕ → ℕ
@@ -26,11 +27,15 @@ inPool h g = not (isTeam h (holderOf h g))
 
 -- the same holding with other owners
 abbrev pub withOwner : Holding → List ℕ → Holding
-withOwner h owner = record { m = h .m; n = h .n; owner = owner }
+withOwner h owner = counted (h .m) (h .n) owner (h .shares)
 
--- every instrument in the pool
-abbrev pub allInPool : (m n : ℕ) → Holding
-allInPool m n = record { m = m; n = n; owner = replicate 64 255 }
+-- "The holding with every instrument in the pool is made with both right."
+abbrev pub allInPool : (m n : ℕ) (shares : List ℕ) → Holding
+allInPool m n shares = counted m n (replicate 64 255) shares
+
+-- the same holding measured against other shares
+abbrev pub measuredBy : Holding → (shares : List ℕ) → Holding
+measuredBy h shares = counted (h .m) (h .n) (h .owner) shares
 
 -- "Give (instrument, team) puts a pool instrument with a team"; "Where an instrument, a team or the instrument's present place does not
 -- fit this, the holding comes back unchanged."

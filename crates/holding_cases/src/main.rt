@@ -3,26 +3,12 @@
 use libc::STDIN_FILENO;
 use lines::print;
 
-mod moves;
-mod numbers;
-mod runs;
-mod showing;
-mod starting;
-mod steps;
-
-// Answers a case: what each step hands back.
-fn perform(line: &[u8]) {
-    let end = lines::find(line, 0, b';');
-    let start = starting::read(&line[0..end]);
-    steps::answer(start, lines::after(line, b';'));
-}
-
 // Answers a line.
 fn answer(line: &[u8]) {
     if lines::is_note(line) {
         print::text(line);
     } else {
-        perform(line);
+        stepping::answer(line);
     }
     print::text(b"\n");
 }

@@ -1,5 +1,6 @@
-// Plans that need long chains, chains through several teams, or the shortest of several chains. Each line of standard input is answered
-// in turn. An empty line and one that starts with `#` come back as they are; any other line is a verb and its operands.
+// Plans that need long chains, chains through several teams, or the shortest of several chains (`divide HEX`), and long chains carried out on a
+// holding (`hold CASE`). Each line of standard input is answered in turn. An empty line and one that starts with `#` come back as they are; any
+// other line is a verb and its operands.
 use libc::STDIN_FILENO;
 use lines::print;
 
@@ -11,6 +12,10 @@ fn perform(line: &[u8]) {
     let operands = lines::rest(line);
     if lines::same(verb, b"divide") {
         dividing::answer(operands);
+        return;
+    }
+    if lines::same(verb, b"hold") {
+        stepping::answer(operands);
         return;
     }
     print::text(b"UNKNOWN ");

@@ -42,7 +42,7 @@ last-all P g [] a = a .0
 last-all P g (h ∷ hs) a = last-all P h hs (a .1)
 
 -- one hand-over: who takes g has one more, and who held it one fewer
-move-size : (m : ℕ) (D : ℕ → ℕ) (g i t : ℕ) → g < m → size m (bundle (move D g i) t) + one (eqb (D g) t) ≡ size m (bundle D t) + one (eqb i t)
+pub move-size : (m : ℕ) (D : ℕ → ℕ) (g i t : ℕ) → g < m → size m (bundle (move D g i) t) + one (eqb (D g) t) ≡ size m (bundle D t) + one (eqb i t)
 move-size m D g i t l =
     let change = size-change m (bundle (move D g i) t) (bundle D t) g l (λ k d. ap (λ (x : ℕ). eqb x t) (move-away D g i k d)) in
     let here = ap (λ (x : ℕ). one (eqb x t)) (move-here D g i g refl) in

@@ -10,6 +10,8 @@ pub mod Shares
 pub mod Optimum
 pub mod Swapping
 pub mod Carrying
+pub mod Change
+pub mod Shortfalls
 pub mod Chains
 pub mod Shortest
 pub mod Certificates

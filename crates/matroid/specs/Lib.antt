@@ -15,6 +15,7 @@ pub mod Matroid
 pub mod Build
 pub mod Division
 pub mod DivisionLaws
+pub mod Shortfall
 pub mod Cuts
 pub mod Share
 pub mod Best

@@ -27,7 +27,7 @@ use Rattle.plan.specs.Valid.{Valid}
 use Rattle.plan.proofs.Kept.{Kept, kept-at, kept-start, kept-next}
 use Rattle.command.proofs.Standing.{Whole}
 use Rattle.judge.proofs.Standing.{whole}
-use Rattle.plan.proofs.Each.{each-length, each-at}
+use Rattle.sets.proofs.Each.{each-length, each-at}
 use Rattle.plan.proofs.Steps.{workedOn, rowsAfter, number, step-refused, step-end, step-next, plan-start, plan-none, finished-by}
 
 -- What holds of every refusal and of every end holds of every reading.

@@ -1,5 +1,4 @@
 pub mod Tables
-pub mod Each
 pub mod Rows
 pub mod Following
 pub mod Again

@@ -28,7 +28,7 @@ use Rattle.judge.specs.Fault.{named, fault, isEnd}
 use Rattle.carry.specs.Carry.{namedTeam, start, openTeam, changedTeam, changedState}
 use Rattle.plan.specs.Read.{accepted, readFrom, readPlan}
 use Rattle.plan.specs.Teams.{usable, gluedTo, teamBefore, allStand}
-use Rattle.plan.proofs.Each.{each-at}
+use Rattle.sets.proofs.Each.{each-at}
 use Rattle.plan.proofs.Gluing.{Stands, indep-yes, all-stand}
 use Rattle.plan.proofs.Tables.{named-none}
 use Rattle.plan.proofs.Steps.{workedOn, rowsAfter, step-end, step-next, plan-start}

@@ -26,7 +26,7 @@ use Rattle.days.specs.Days.{always}
 use Rattle.plan.specs.Read.{refused, accepted, finished, teamsOf, teamDays, shelfDays, readFrom, readPlan}
 use Rattle.plan.specs.Progress.{rowAt, rowsIn, Followed, Ended}
 use Rattle.judge.proofs.Standing.{whole}
-use Rattle.plan.proofs.Each.{each-length, each-at}
+use Rattle.sets.proofs.Each.{each-length, each-at}
 use Rattle.plan.proofs.Steps.{row-of, workedOn, number, next, step-refused, step-end, step-next, plan-start}
 use Rattle.plan.proofs.Following.{few-teams, small-pool}
 

@@ -20,7 +20,7 @@ use Rattle.plan.specs.Read.{shelfDays, accepted}
 use Rattle.judge.specs.Fault.{named}
 use Rattle.plan.specs.Teams.{usable, entries, gluedTo, beforeGlue, teamBefore, allStand}
 use Rattle.plan.specs.Progress.{rowAt, rowsIn}
-use Rattle.plan.proofs.Each.{each-at}
+use Rattle.sets.proofs.Each.{each-at}
 use Rattle.plan.proofs.Run.{row-first, row-last, team-row, days-row}
 use Rattle.plan.proofs.Rows.{marks-lent}
 use Rattle.plan.proofs.Gluing.{yes-word, none-fall}

@@ -23,7 +23,7 @@ use Rattle.plan.specs.declared.Reading.{Reading}
 use Rattle.plan.specs.Teams.{usable, usableWords, glued, gluedTo, valuationOf, valuationsOf, teamMatroid}
 use Rattle.plan.specs.Valid.{Valid}
 use Rattle.plan.proofs.Gluing.{word-minus}
-use Rattle.plan.proofs.Each.{each-length, each-at, Tabled, tabled-all}
+use Rattle.sets.proofs.Each.{each-length, each-at, Tabled, tabled-all}
 
 -- the word of a team's usable instruments, by its days as the code has them, and where it has none by those of every day
 module _ (shelf : List Days) (m : ℕ) (days : List Days) (t : ℕ) (own d : Days) (l : t < length days) (is-own : own ≡ getD days t d) where

@@ -1,4 +1,5 @@
 pub mod Lists
+pub mod Each
 pub mod Tests
 pub mod Words
 pub mod Trailing

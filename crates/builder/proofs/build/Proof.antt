@@ -3,8 +3,7 @@ use mathlib.Core.Path.{refl, subst⁻¹}
 use native.Mathlib.Omega.{arith}
 use denote.Ref.{now}
 use Rattle.plan.proofs.Bounds.{valid-reading}
-use Rattle.engine.proofs.Sizes.{given-le}
-use Rattle.engine.proofs.Sharing.{given-count}
+use Rattle.engine.proofs.Sizes.{held-total, given-le}
 use Rattle.builder.specs.Build.{untouched}
 use Rattle.builder.proofs.Answering.{valid-agents, away-agents, build-told, answer-read, answer-short, answer-wrote, sheet-wrote}
 use borrow.Author.Needs.{needs}
@@ -35,11 +34,11 @@ divide-requires c κs =
     let row = c .before .valuations-of .ensures in
     (valid-agents _ _ v row, away-agents _ _ v row _ (c .present-of .ensures))
 
-count-given-requires : tie.Need-count-given-requires
-count-given-requires c κs = let v = valid-reading _ _ (c .before .before .before .before .before .before .before .before .read .ensures) (c .before .before .before .before .before .before .if1 .left) in let e = c .before .divide .ensures .full .held .m in omega (arith, v .small)
+total-requires : tie.Need-total-requires
+total-requires c κs = c .before .divide .ensures .full .held .right
 
 cast-total : tie.Need-cast-total
-cast-total c = let v = valid-reading _ _ (c .before .before .before .before .before .before .before .before .before .read .ensures) (c .before .before .before .before .before .before .before .if1 .left) in let is = given-count _ _ _ (c .before .before .divide .ensures .full .held) (c .count-given .ensures) in let most : c .count-given .result ≤ c .before .before .before .before .before .before .before .before .before .read .result .m = subst⁻¹ (λ (x : ℕ). x ≤ c .before .before .before .before .before .before .before .before .before .read .result .m) is (given-le _ (c .before .before .divide .result .holding .owner)) in omega (arith, v .small)
+cast-total c = let v = valid-reading _ _ (c .before .before .before .before .before .before .before .before .before .read .ensures) (c .before .before .before .before .before .before .before .if1 .left) in let is = held-total _ _ (c .before .before .divide .ensures .full .held) _ (c .total .ensures) in let most : c .total .result ≤ c .before .before .before .before .before .before .before .before .before .read .result .m = subst⁻¹ (λ (x : ℕ). x ≤ c .before .before .before .before .before .before .before .before .before .read .result .m) is (given-le _ (c .before .before .divide .result .holding .owner)) in omega (arith, v .small)
 
 write-sheet-requires : tie.Need-write-sheet-requires
 write-sheet-requires c κs = let v = valid-reading _ _ (c .before .before .before .before .before .before .before .before .before .before .read .ensures) (c .before .before .before .before .before .before .before .before .if1 .left) in (omega (arith, c .before .before .before .before .before .before .if2 .left, c .before .before .before .before .before .before .before .length .ensures), v .small, v .few)
@@ -48,7 +47,7 @@ same-length : tie.Need-same-length
 same-length c = search needs
 
 returns-3 : tie.Need-returns-3
-returns-3 c = let v = valid-reading _ _ (c .before .before .before .before .before .before .before .before .before .before .before .before .before .read .ensures) (c .before .before .before .before .before .before .before .before .before .before .before .if1 .left) in let e = answer-wrote _ (now (c .before .before .before .before .before .before .before .before .before .before .before .before .before .before .before .before .args .buffer)) _ (c .before .before .before .before .before .before .before .before .before .before .before .before .before .read .ensures) (c .before .before .before .before .before .before .before .before .before .before .before .if1 .left) _ (c .before .before .before .before .before .before .before .before .before .before .length .ensures) (c .before .before .before .before .before .before .before .before .before .if2 .left) in (e, (sheet-wrote _ (now (c .before .before .before .before .before .before .before .before .before .before .before .before .before .before .before .before .args .buffer)) _ (c .before .before .before .before .before .before .before .before .before .before .before .before .before .read .ensures) v (c .before .before .before .before .before .before .before .before .before .before .before .if1 .left) _ (c .before .before .before .before .before .before .before .before .before .before .length .ensures) (c .before .before .before .before .before .before .before .before .before .if2 .left) _ (c .before .before .before .before .before .before .before .before .valuations-of .ensures) _ (c .before .before .before .before .before .before .before .present-of .ensures) _ _ (c .before .before .before .before .before .before .divide .result) (c .before .before .write-sheet .ensures) (c .before .before .before .before .before .before .divide .ensures) (c .before .before .before .before .count-given .ensures), build-told _ _ _ e))
+returns-3 c = let v = valid-reading _ _ (c .before .before .before .before .before .before .before .before .before .before .before .before .before .read .ensures) (c .before .before .before .before .before .before .before .before .before .before .before .if1 .left) in let e = answer-wrote _ (now (c .before .before .before .before .before .before .before .before .before .before .before .before .before .before .before .before .args .buffer)) _ (c .before .before .before .before .before .before .before .before .before .before .before .before .before .read .ensures) (c .before .before .before .before .before .before .before .before .before .before .before .if1 .left) _ (c .before .before .before .before .before .before .before .before .before .before .length .ensures) (c .before .before .before .before .before .before .before .before .before .if2 .left) in (e, (sheet-wrote _ (now (c .before .before .before .before .before .before .before .before .before .before .before .before .before .before .before .before .args .buffer)) _ (c .before .before .before .before .before .before .before .before .before .before .before .before .before .read .ensures) v (c .before .before .before .before .before .before .before .before .before .before .before .if1 .left) _ (c .before .before .before .before .before .before .before .before .before .before .length .ensures) (c .before .before .before .before .before .before .before .before .before .if2 .left) _ (c .before .before .before .before .before .before .before .before .valuations-of .ensures) _ (c .before .before .before .before .before .before .before .present-of .ensures) _ _ (c .before .before .before .before .before .before .divide .result) (c .before .before .write-sheet .ensures) (c .before .before .before .before .before .before .divide .ensures) (held-total _ _ (c .before .before .before .before .before .before .divide .ensures .full .held) _ (c .before .before .before .before .total .ensures)), build-told _ _ _ e))
 
 pub build-spec : {M : Type 1} → statement M
 build-spec =
@@ -61,7 +60,7 @@ build-spec =
     valuations-of-requires
     present-of-requires
     divide-requires
-    count-given-requires
+    total-requires
     cast-total
     write-sheet-requires
     same-length

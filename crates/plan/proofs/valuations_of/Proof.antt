@@ -3,7 +3,7 @@ use Prim.Native.Nat.{_-_, _≤_}
 use mathlib.Core.Path.{_≡_, refl}
 use native.Mathlib.Omega.{arith}
 use Rattle.kinds.specs.Valuations.{blankValuation}
-use Rattle.plan.proofs.Each.{Tabled, tabled-none, tabled-next}
+use Rattle.sets.proofs.Each.{Tabled, tabled-none, tabled-next}
 use Rattle.plan.proofs.Valuing.{valuedAt, valued-at, valued-all}
 use borrow.Author.Needs.{needs}
 use Rattle.plan.proofs.valuations_of.Statement.{statement}

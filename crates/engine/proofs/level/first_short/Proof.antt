@@ -3,38 +3,27 @@ use mathlib.Core.Path.{_≡_}
 use native.Mathlib.Omega.{arith}
 use borrow.Author.Count.{below-more}
 use lib.ListN.{getD}
-use Rattle.engine.specs.Level.{wordSize}
-use Rattle.engine.proofs.Leveling.{word-size}
 use borrow.Author.Needs.{needs}
 use Rattle.engine.proofs.level.first_short.Statement.{statement}
 use Rattle.engine.proofs.level.first_short.Tie as tie
 
 abbrev Inv-loop : tie.InvT-loop
-Inv-loop n bundles targets t₀ t = (t ≤ n) × ((k : ℕ) → k < t → getD targets k 0 ≤ wordSize bundles k)
+Inv-loop n sizes shares t₀ t = (t ≤ n) × ((k : ℕ) → k < t → getD shares k 0 ≤ getD sizes k 0)
 
 abbrev μ-loop : tie.MeasureT-loop
-μ-loop n bundles targets t₀ t = n - t
+μ-loop n sizes shares t₀ t = n - t
 
 loop-holds : tie.Need-loop-holds Inv-loop μ-loop
 loop-holds c = (search needs, λ k l. absurd (omega arith))
 
-array-read-most : tie.Need-array-read-most Inv-loop μ-loop
-array-read-most c = search needs
+array-read-if1 : tie.Need-array-read-if1 Inv-loop μ-loop
+array-read-if1 c = search needs
 
-cast-most : tie.Need-cast-most Inv-loop μ-loop
-cast-most c = search needs
-
-mul-size : tie.Need-mul-size Inv-loop μ-loop
-mul-size c = search needs
-
-array-read-size : tie.Need-array-read-size Inv-loop μ-loop
-array-read-size c = search needs
-
-size-requires : tie.Need-size-requires Inv-loop μ-loop
-size-requires c κs = search needs
+array-read-if1-2 : tie.Need-array-read-if1-2 Inv-loop μ-loop
+array-read-if1-2 c = search needs
 
 returns : tie.Need-returns Inv-loop μ-loop
-returns c = let is = word-size (c .before .before .before .before .args .t1) (c .before .before .before .loop .t) _ (c .before .size .ensures) in record { top = omega arith; before = c .before .before .before .loop .inv .1; short = λ _. rw is at (c .if1 .taken) }
+returns c = record { top = omega arith; before = c .before .before .loop .inv .1; short = λ _. c .if1 .taken }
 
 add-t : tie.Need-add-t Inv-loop μ-loop
 add-t c = search needs
@@ -43,7 +32,7 @@ loop-less : tie.Need-loop-less Inv-loop μ-loop
 loop-less c = search needs
 
 loop-again : tie.Need-loop-again Inv-loop μ-loop
-loop-again c = let is = word-size (c .before .before .before .before .args .t1) (c .before .before .before .loop .t) _ (c .before .size .ensures) in (search needs, below-more _ _ (c .before .before .before .loop .inv .1) (rw is at (c .if1 .left)))
+loop-again c = (search needs, below-more _ _ (c .before .before .loop .inv .1) (c .if1 .left))
 
 returns-2 : tie.Need-returns-2 Inv-loop μ-loop
 returns-2 c = let e : c .before .loop .t ≡ c .before .before .args .n = omega arith in record { top = omega arith; before = rw e at (c .before .loop .inv .1); short = λ l. absurd (omega arith) }
@@ -55,11 +44,8 @@ first-short-spec =
     Inv-loop
     μ-loop
     loop-holds
-    array-read-most
-    cast-most
-    mul-size
-    array-read-size
-    size-requires
+    array-read-if1
+    array-read-if1-2
     returns
     add-t
     loop-less

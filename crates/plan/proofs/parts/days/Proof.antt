@@ -4,7 +4,7 @@ use native.Mathlib.Omega.{arith}
 use Rattle.days.specs.Days.{always}
 use Rattle.row.specs.Days.{daysOf}
 use Rattle.plan.specs.Progress.{rowAt}
-use Rattle.plan.proofs.Each.{Tabled, tabled-none, tabled-next, tabled-all}
+use Rattle.sets.proofs.Each.{Tabled, tabled-none, tabled-next, tabled-all}
 use Rattle.plan.proofs.Rows.{row-lent}
 use Rattle.plan.proofs.Run.{days-row}
 use borrow.Author.Needs.{needs}

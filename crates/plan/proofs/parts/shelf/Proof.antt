@@ -5,7 +5,7 @@ use native.Mathlib.Omega.{arith}
 use Rattle.days.specs.Days.{always}
 use Rattle.row.specs.Row.{rowTeam}
 use Rattle.row.specs.Days.{shelfOf}
-use Rattle.plan.proofs.Each.{Tabled, tabled-none, tabled-next, tabled-all}
+use Rattle.sets.proofs.Each.{Tabled, tabled-none, tabled-next, tabled-all}
 use borrow.Author.Needs.{needs}
 use Rattle.plan.proofs.parts.shelf.Statement.{statement}
 use Rattle.plan.proofs.parts.shelf.Tie as tie

@@ -3,7 +3,7 @@ use mathlib.Core.Path.{_≡_, _∙_}
 use native.Mathlib.Omega.{arith}
 use Rattle.team.specs.Team.{blankTeam}
 use Rattle.plan.specs.Progress.{rowAt}
-use Rattle.plan.proofs.Each.{Tabled, tabled-none, tabled-next, tabled-all}
+use Rattle.sets.proofs.Each.{Tabled, tabled-none, tabled-next, tabled-all}
 use Rattle.plan.proofs.Rows.{row-lent}
 use Rattle.plan.proofs.Run.{team-row}
 use borrow.Author.Needs.{needs}

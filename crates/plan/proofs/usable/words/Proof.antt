@@ -7,7 +7,7 @@ use lib.ListN.{length, getD}
 use Rattle.sets.specs.Bits.{word}
 use Rattle.days.specs.Days.{always, usableOn}
 use Rattle.plan.proofs.Valuing.{word-own, word-every}
-use Rattle.plan.proofs.Each.{Tabled, tabled-none, tabled-next, tabled-all}
+use Rattle.sets.proofs.Each.{Tabled, tabled-none, tabled-next, tabled-all}
 use borrow.Author.Needs.{needs}
 use Rattle.plan.proofs.usable.words.Statement.{statement}
 use Rattle.plan.proofs.usable.words.Tie as tie
