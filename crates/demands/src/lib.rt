@@ -1,4 +1,5 @@
-// The three demands as promises of callers: each function calls an operation on any bytes, asks nothing, and promises what the demands say.
+// The three demands as promises of callers: each function calls an operation on any bytes, asks nothing, and promises what the demands say. Only
+// those of `holdings` ask something: note 7 wants them called where sizes and shortfall are right.
 ghost use mathlib.Core.Path.{_≡_};
 ghost use Rattle.plan.specs.Worth.{worthNumber, worthPlace, worthValue};
 ghost use Rattle.checker.specs.Verdict.{verdictNumber, verdictPlace};
