@@ -16,4 +16,10 @@ enum status command_page(char *const arguments[]);
 /* explain PLAN [SHEET]: prints the weekly listing or the refusal in words. */
 enum status command_explain(char *const arguments[]);
 
+/* write TEXT PLAN: replaces the file by the plan of a text. */
+enum status command_write(char *const arguments[]);
+
+/* show PLAN: prints the plan as text; of a refused plan what stands before the fault, and the refusal in words. */
+enum status command_show(char *const arguments[]);
+
 #endif

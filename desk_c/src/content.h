@@ -2,10 +2,10 @@
 #ifndef CONTENT_H
 #define CONTENT_H
 
+#include "file.h"
 #include "pool.h"
 
 #include <stdbool.h>
-#include <sys/types.h>
 
 /*
  * How much of a file is read. Commands that fit a plan have POOL_PLAN_MAX bytes at most, so a longer file
@@ -19,8 +19,7 @@
 struct content {
     uint8_t at[PLAN_READ_MAX];
     size_t length;
-    dev_t device;
-    ino_t inode;
+    struct file_identity identity;
 };
 
 /* Reads a plan's file, or standard input for "-"; says what is wrong and answers false if it cannot. */

@@ -1,45 +1,47 @@
 /* The command page. */
 #include "commands.h"
 #include "content.h"
+#include "number.h"
+#include "plan.h"
 #include "refusal.h"
+#include "set.h"
 #include "sheet.h"
+
+#include <string.h>
 
 /* Reads a team's number: decimal digits, where any number too great for a team is as good as another. */
 static bool read_team(const char *text, size_t *team)
 {
-    if (text[0] == '\0')
+    uint64_t number;
+
+    if (!number_read((const uint8_t *)text, strlen(text), &number))
         return false;
-    *team = 0;
-    for (; text[0] != '\0'; text++) {
-        if (text[0] < '0' || text[0] > '9')
-            return false;
-        if (*team < POOL_TEAMS_MAX)
-            *team = *team * 10 + (size_t)(text[0] - '0');
-    }
+    *team = number < SIZE_MAX ? (size_t)number : SIZE_MAX;
     return true;
 }
 
 /* Prints a team's page, a line for each command: its SHARE, then its PARTs. */
-static void print_page(const struct content *sheet, struct sheet_shape shape, size_t team)
+static void print_page(const uint8_t *page, size_t length)
 {
-    printf("SHARE team %zu share %u set", team, sheet_share_stated(sheet, shape, team));
-    sheet_print_set(stdout, sheet, shape, sheet_share(shape, team) + 3);
+    printf("SHARE team %u share %u set", page[1], page[2]);
+    set_print(stdout, page + 3, SHEET_SET_SIZE);
     puts("");
-    for (size_t instrument = 0; instrument < shape.instruments; instrument++)
-        printf("PART instrument %zu part %u\n", instrument, sheet->at[sheet_part(shape, team, instrument) + 2]);
+    for (size_t part = SHEET_SHARE_SIZE; part < length; part += SHEET_PART_SIZE)
+        printf("PART instrument %u part %u\n", page[part + 1], page[part + 2]);
 }
 
 /* Prints the page of a team in the plan; to another team says that its page is empty. */
 static enum status hand_out(const struct content *plan, const struct content *sheet, size_t team, const char *name)
 {
-    struct sheet_shape shape = sheet_shape(plan);
+    uint64_t page = pool_page(plan->at, plan->length, sheet->at, sheet->length, team);
+    size_t teams = plan_teams(plan);
 
-    if (team < shape.teams) {
-        print_page(sheet, shape, team);
+    if (page != POOL_NO_PAGE) {
+        print_page(sheet->at + pool_page_offset(page), pool_page_length(page));
         return STATUS_DONE;
     }
     fprintf(stderr, "desk: team %s is not in the plan, its page is empty; the plan has %zu team%s, numbered from 0\n",
-            name, shape.teams, shape.teams == 1 ? "" : "s");
+            name, teams, teams == 1 ? "" : "s");
     return STATUS_REFUSED;
 }
 

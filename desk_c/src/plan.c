@@ -1,59 +1,5 @@
-/* The commands of a plan: their names and operands, and the way from one to the next. */
+/* The commands of a plan: the way from one to the next, and what they say of its teams. */
 #include "plan.h"
-
-static const struct plan_form forms[] = {
-    [PLAN_START] = {"START", 0, 2, 2, {OPERAND_VERSION, OPERAND_COUNT}},
-    [PLAN_CAPS] = {"CAPS", 0, 1, 1, {OPERAND_CHANNELS}},
-    [PLAN_LOOPS] = {"LOOPS", 0, 1, 1, {OPERAND_CHANNELS}},
-    [PLAN_CLASS] = {"CLASS", PLAN_CAPS, 2, 2, {OPERAND_CLASS, OPERAND_CAP}},
-    [PLAN_PUT] = {"PUT", PLAN_CAPS, 2, 2, {OPERAND_INSTRUMENT, OPERAND_CLASS}},
-    [PLAN_SPAN] = {"SPAN", PLAN_LOOPS, 3, 3, {OPERAND_INSTRUMENT, OPERAND_JOINT, OPERAND_JOINT}},
-    [PLAN_END] = {.name = "END", .size = 0, .count = 0},
-    [PLAN_MOUNTS] = {"MOUNTS", 0, 1, 1, {OPERAND_CHANNELS}},
-    [PLAN_FIT] = {"FIT", PLAN_MOUNTS, 5, 2, {OPERAND_INSTRUMENT, OPERAND_MOUNTS}},
-    [PLAN_SHELF] = {"SHELF", 0, 5, 3, {OPERAND_INSTRUMENT, OPERAND_FROM, OPERAND_TO}},
-    [PLAN_DAYS] = {"DAYS", 0, 4, 2, {OPERAND_FROM, OPERAND_TO}},
-    [PLAN_GLUE] = {"GLUE", 0, 1, 1, {OPERAND_INSTRUMENT}},
-};
-
-static const struct plan_operand operands[] = {
-    [OPERAND_VERSION] = {"version", 1, 1, 2},
-    [OPERAND_COUNT] = {"instruments", 1, 0, POOL_INSTRUMENTS_MAX + 1},
-    [OPERAND_CHANNELS] = {"channels", 1, 0, 256},
-    [OPERAND_CLASS] = {"class", 1, 0, 16},
-    [OPERAND_CAP] = {"cap", 1, 0, 256},
-    [OPERAND_INSTRUMENT] = {"instrument", 1, 0, 0},
-    [OPERAND_JOINT] = {"joint", 1, 0, 40},
-    [OPERAND_MOUNTS] = {"mounts", 4, 0, UINT64_C(1) << 32},
-    [OPERAND_FROM] = {"from", 2, 0, 65536},
-    [OPERAND_TO] = {"to", 2, 0, 65536},
-};
-
-/* The form of a command byte; null if it is no command. */
-const struct plan_form *plan_form(uint8_t byte)
-{
-    return byte >= PLAN_START && byte <= PLAN_LAST ? &forms[byte] : NULL;
-}
-
-/* The name and values of an operand in this plan. */
-struct plan_operand plan_operand(const struct content *plan, enum operand operand)
-{
-    struct plan_operand answer = operands[operand];
-
-    if (operand == OPERAND_INSTRUMENT)
-        answer.end = plan_instruments(plan);
-    return answer;
-}
-
-/* The value of an operand's bytes, the low one first. */
-uint64_t plan_value(const uint8_t *bytes, size_t size)
-{
-    uint64_t value = 0;
-
-    while (size > 0)
-        value = value << 8 | bytes[--size];
-    return value;
-}
 
 /* Tells whether a command byte opens a team. */
 static bool opens_team(uint8_t byte)
@@ -77,14 +23,14 @@ bool plan_next(const struct content *plan, struct plan_place *place)
         return false;
     byte = plan->at[place->offset];
     form = plan_form(byte);
-    if (form == NULL || plan->length - place->offset <= form->size)
+    if (form == NULL || plan->length - place->offset <= plan_size(form))
         return false;
     if (opens_team(byte)) {
         place->teams++;
         place->team = place->offset;
     }
     place->previous = place->offset;
-    place->offset += 1 + form->size;
+    place->offset += 1 + plan_size(form);
     place->number++;
     return true;
 }

@@ -12,6 +12,7 @@ struct fault {
     struct plan_place place;
     const uint8_t *command;       /* the bytes of the faulty command */
     size_t size;                  /* how many of them are in the file */
+    size_t whole;                 /* how many a command of its form has; 0 if it is no command */
     const struct plan_form *form; /* null if it is no command */
 };
 
@@ -24,8 +25,11 @@ static struct fault find_fault(FILE *out, const struct refusal *refusal)
     fault.size = fault.plan->length - fault.place.offset;
     if (fault.size > 0)
         fault.form = plan_form(fault.command[0]);
-    if (fault.form != NULL && fault.size > 1 + fault.form->size)
-        fault.size = 1 + fault.form->size;
+    if (fault.form == NULL)
+        return fault;
+    fault.whole = 1 + plan_size(fault.form);
+    if (fault.size > fault.whole)
+        fault.size = fault.whole;
     return fault;
 }
 
@@ -60,12 +64,14 @@ static void print_no_end(const struct fault *fault)
 /* 2 within a command: its operands are cut short. They are counted in bytes where one has several. */
 static void print_cut_short(const struct fault *fault)
 {
+    size_t size = plan_size(fault->form), count = plan_count(fault->form);
+
     print_command(fault);
-    fprintf(fault->out, "is cut short; it takes %zu ", fault->form->size);
-    if (fault->form->size > fault->form->count)
+    fprintf(fault->out, "is cut short; it takes %zu ", size);
+    if (size > count)
         fputs("bytes of operands", fault->out);
     else
-        fputs(fault->form->count == 1 ? "operand" : "operands", fault->out);
+        fputs(count == 1 ? "operand" : "operands", fault->out);
     fprintf(fault->out, ", and the file ends after %zu.", fault->size - 1);
 }
 
@@ -95,13 +101,13 @@ static void print_misplaced(const struct fault *fault)
         fputs("is a second START; START stands first and once.", fault->out);
     else if (fault->command[0] == PLAN_END)
         fprintf(fault->out, "ends a plan without teams; a plan has 1 to %d teams.", POOL_TEAMS_MAX);
-    else if (fault->form->team != 0)
-        print_wrong_team(fault);
-    else if (fault->command[0] == PLAN_SHELF && fault->place.teams > 0)
+    else if (fault->form->team == PLAN_BEFORE_TEAMS && fault->place.teams > 0)
         fprintf(fault->out, "is in the wrong place; it belongs before the first team, and team %zu is open.",
                 fault->place.teams - 1);
-    else if ((fault->command[0] == PLAN_DAYS || fault->command[0] == PLAN_GLUE) && fault->place.teams == 0)
+    else if (fault->form->team == PLAN_ANY_TEAM && fault->place.teams == 0)
         fputs("is in the wrong place; it belongs to a team, and no team is open.", fault->out);
+    else if (plan_form(fault->form->team) != NULL)
+        print_wrong_team(fault);
     else
         fputs("is in the wrong place.", fault->out);
 }
@@ -121,10 +127,19 @@ static void print_no_instrument(const struct fault *fault, uint64_t instrument)
 /* 5 for another operand: its name, its value and the values it may have. */
 static void print_wrong_value(const struct fault *fault, struct plan_operand operand, uint64_t value)
 {
-    fprintf(fault->out, "has %s %" PRIu64 "; allowed is %" PRIu64, operand.name, value, operand.least);
-    if (operand.end - operand.least > 1)
-        fprintf(fault->out, " to %" PRIu64, operand.end - 1);
+    fprintf(fault->out, "has %s %" PRIu64 "; allowed is ", operand.name, value);
+    plan_print_range(fault->out, operand);
     fputs(".", fault->out);
+}
+
+/* The name and values of an operand in the refused plan, which has instruments of its own number. */
+static struct plan_operand operand_here(const struct fault *fault, enum operand operand)
+{
+    struct plan_operand answer = plan_operand(operand);
+
+    if (operand == OPERAND_INSTRUMENT)
+        answer.end = plan_instruments(fault->plan);
+    return answer;
 }
 
 /* 5: an operand is out of its range; the first such operand is named. */
@@ -133,12 +148,12 @@ static void print_out_of_range(const struct fault *fault)
     const uint8_t *bytes = fault->command + 1;
 
     print_command(fault);
-    for (size_t i = 0; i < fault->form->count; i++) {
-        struct plan_operand operand = plan_operand(fault->plan, fault->form->operands[i]);
+    for (size_t i = 0; i < plan_count(fault->form); i++) {
+        struct plan_operand operand = operand_here(fault, fault->form->operands[i]);
         uint64_t value = plan_value(bytes, operand.size);
 
         bytes += operand.size;
-        if (value >= operand.least && value < operand.end)
+        if (operand.is_mask || (value >= operand.least && value < operand.end))
             continue;
         if (fault->form->operands[i] == OPERAND_INSTRUMENT)
             print_no_instrument(fault, value);
@@ -283,7 +298,7 @@ bool refusal_print_plan(FILE *out, const struct refusal *refusal)
 
     if (fault.place.offset != refusal->place)
         return false;
-    if (fault.form != NULL && fault.size == 1 + fault.form->size && print_whole(&fault, refusal->number))
+    if (fault.form != NULL && fault.size == fault.whole && print_whole(&fault, refusal->number))
         return true;
     if (refusal->number == 1)
         print_no_start(&fault);

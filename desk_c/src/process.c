@@ -7,8 +7,8 @@
 #include <stdio.h>
 #include <unistd.h>
 
-/* Room for the longest result, so that it is written at once at the end. */
-static char result_buffer[16384];
+/* Room for the longest result, the text of a plan, so that it is written at once at the end. */
+static char result_buffer[131072];
 
 /* Occupies a closed standard file, the wrong way round: no other file gets its number, and using it fails. */
 static bool occupy(int descriptor)

@@ -33,12 +33,6 @@ size_t sheet_share(struct sheet_shape shape, size_t team)
     return sheet_bound(shape) + SHEET_BOUND_SIZE + (SHEET_SHARE_SIZE + SHEET_PART_SIZE * shape.instruments) * team;
 }
 
-/* The offset of a team's PART for an instrument. */
-size_t sheet_part(struct sheet_shape shape, size_t team, size_t instrument)
-{
-    return sheet_share(shape, team) + SHEET_SHARE_SIZE + SHEET_PART_SIZE * instrument;
-}
-
 /* The total that HEAD states. */
 unsigned sheet_total(const struct content *sheet)
 {
@@ -73,13 +67,5 @@ void sheet_print_held(FILE *out, const struct content *sheet, struct sheet_shape
 {
     for (size_t instrument = 0; instrument < shape.instruments; instrument++)
         if (sheet_owner(sheet, instrument) == team)
-            fprintf(out, " %zu", instrument);
-}
-
-/* Prints the instruments of the set at an offset, rising, a space before each. */
-void sheet_print_set(FILE *out, const struct content *sheet, struct sheet_shape shape, size_t offset)
-{
-    for (size_t instrument = 0; instrument < shape.instruments; instrument++)
-        if ((sheet->at[offset + instrument / 8] >> (instrument % 8) & 1) != 0)
             fprintf(out, " %zu", instrument);
 }

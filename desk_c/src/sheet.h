@@ -48,9 +48,6 @@ size_t sheet_bound(struct sheet_shape shape);
 /* The offset of a team's SHARE. */
 size_t sheet_share(struct sheet_shape shape, size_t team);
 
-/* The offset of a team's PART for an instrument. */
-size_t sheet_part(struct sheet_shape shape, size_t team, size_t instrument);
-
 /* The total that HEAD states. */
 unsigned sheet_total(const struct content *sheet);
 
@@ -65,8 +62,5 @@ unsigned sheet_share_stated(const struct content *sheet, struct sheet_shape shap
 
 /* Prints the instruments a team holds, rising, a space before each. */
 void sheet_print_held(FILE *out, const struct content *sheet, struct sheet_shape shape, size_t team);
-
-/* Prints the instruments of the set at an offset, rising, a space before each. */
-void sheet_print_set(FILE *out, const struct content *sheet, struct sheet_shape shape, size_t offset);
 
 #endif

@@ -48,14 +48,14 @@ static bool look_at_present(struct target *target)
 }
 
 /* Opens the directory and looks at the present file; says what is wrong and answers false if it will not do. */
-bool target_open(struct target *target, const char *path)
+bool target_open(struct target *target, const char *path, const char *what)
 {
     const char *slash = strrchr(path, '/');
 
     target->path = path;
     target->name = slash == NULL ? path : slash + 1;
     if (target->name[0] == '\0') {
-        trouble("write", path[0] == '\0' ? "the sheet" : path, "The path ends without the name of a file");
+        trouble("write", path[0] == '\0' ? what : path, "The path ends without the name of a file");
         return false;
     }
     target->directory = open_directory(path, target->name);
@@ -69,10 +69,10 @@ bool target_open(struct target *target, const char *path)
     return false;
 }
 
-/* Tells whether the present file is the one this content was read from. */
-bool target_is_source(const struct target *target, const struct content *source)
+/* Tells whether the present file is this one. */
+bool target_is(const struct target *target, const struct file_identity *file)
 {
-    return target->exists && target->present.st_dev == source->device && target->present.st_ino == source->inode;
+    return target->exists && target->present.st_dev == file->device && target->present.st_ino == file->inode;
 }
 
 /* Closes the directory. */

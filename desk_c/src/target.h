@@ -1,4 +1,4 @@
-/* The file a sheet is written to: replaced whole or not at all. */
+/* The file that bytes are written to: replaced whole or not at all. */
 #ifndef TARGET_H
 #define TARGET_H
 
@@ -16,11 +16,14 @@ struct target {
     struct stat present;
 };
 
-/* Opens the directory and looks at the present file; says what is wrong and answers false if it will not do. */
-bool target_open(struct target *target, const char *path);
+/*
+ * Opens the directory and looks at the present file; says what is wrong and answers false if it will not do.
+ * A message about an empty path names what was to be written.
+ */
+bool target_open(struct target *target, const char *path, const char *what);
 
-/* Tells whether the present file is the one this content was read from. */
-bool target_is_source(const struct target *target, const struct content *source);
+/* Tells whether the present file is this one. */
+bool target_is(const struct target *target, const struct file_identity *file);
 
 /* Puts a new file in the present one's place; says what is wrong and answers false if it cannot. */
 bool target_replace(const struct target *target, const struct content *content);

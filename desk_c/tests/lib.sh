@@ -20,6 +20,11 @@ patch() {
     dd if=patch.byte of="$2" bs=1 seek="$3" conv=notrunc 2>/dev/null
 }
 
+# Prints a character many times: repeat CHARACTER COUNT
+repeat() {
+    head -c "$2" /dev/zero | tr '\0' "$1"
+}
+
 # Tells whether a file holds this text and a line feed, or nothing if the text is empty.
 same_text() {
     if [ -z "$2" ]; then [ ! -s "$1" ]; else printf '%s\n' "$2" | cmp -s - "$1"; fi
@@ -67,7 +72,13 @@ quiet() {
     expect "$quiet_name" 0 '' '' "$@"
 }
 
-# Tests that explain and build refuse a plan alike, and that build writes nothing: refused_plan NAME WORDS BYTE...
+# Tells whether show ends with the words of a refusal, and with its exit status: shows_refusal PLAN WORDS
+shows_refusal() {
+    "$desk" show "$1" >got.out 2>got.err
+    [ $? -eq 1 ] && [ ! -s got.err ] && [ "$(tail -n 2 got.out)" = "$2" ]
+}
+
+# Tests that explain, build and show refuse a plan alike, and that build writes nothing: refused_plan NAME WORDS BYTE...
 refused_plan() {
     refused_name=$1 refused_words=$2
     shift 2
@@ -75,6 +86,7 @@ refused_plan() {
     expect "explain: $refused_name" 1 "$refused_words" '' "$desk" explain bad.plan
     expect "build: $refused_name" 1 "$refused_words" '' "$desk" build bad.plan bad.sheet
     verdict "no sheet: $refused_name" test ! -e bad.sheet
+    verdict "show: $refused_name" shows_refusal bad.plan "$refused_words"
 }
 
 # Tests that check, explain and page refuse a sheet alike: refused_sheet NAME WORDS PLAN SHEET
@@ -89,4 +101,51 @@ holds() {
     holds_folder=$1
     shift
     [ "$(ls -A "$holds_folder")" = "$(printf '%s\n' "$@")" ]
+}
+
+# Runs a command where no file may have a byte; prints its messages and its status: limited COMMAND...
+limited() {
+    { (ulimit -f 0 && "$desk" "$@" 2>&1; echo "status $?"); } | cat
+}
+
+# Runs a command on a full disk of 64 KB with OLD as FOLDER/new; prints what became of it: on_full_disk FOLDER OLD COMMAND SOURCE
+# shellcheck disable=SC2016
+on_full_disk() {
+    unshare -rm sh -c '
+        mount -t tmpfs -o size=64k tmpfs "$2" && cp "$3" "$2/new" || exit
+        dd if=/dev/zero of="$2/filler" bs=1024 2>/dev/null
+        "$1" "$4" "$5" "$2/new"
+        echo "status $?"
+        cmp "$3" "$2/new"
+        ls -A "$2"' sh "$desk" "$@"
+}
+
+# Tests that a full disk is trouble and that the file on it stays, where a disk can be mounted: full_disk FOLDER OLD COMMAND SOURCE
+full_disk() {
+    mkdir mount.try
+    if unshare -rm mount -t tmpfs -o size=64k tmpfs mount.try 2>/dev/null; then
+        expect "a full disk: $3" 0 'status 2
+filler
+new' "desk: cannot write $1/new: No space left on device" on_full_disk "$@"
+    else
+        skip "a full disk, $3: no disk can be mounted here"
+    fi
+    rmdir mount.try
+}
+
+# Runs a command eight times at once: eight COMMAND...
+eight() {
+    for eight_run in 1 2 3 4 5 6 7 8; do
+        "$desk" "$@" &
+    done
+    wait
+}
+
+# Prints the message for a result that cannot be written in this way: missed_result WAY
+missed_result() {
+    case $1 in
+    to_full) echo 'desk: cannot write the result: No space left on device' ;;
+    to_closed) echo 'desk: cannot write the result: Bad file descriptor' ;;
+    *) echo 'desk: cannot write the result: Broken pipe' ;;
+    esac
 }

@@ -3,8 +3,10 @@
 
 mkdir closed
 cp a.plan a.sheet closed
+"$desk" show a.plan >a.txt
+cp a.txt closed
 cp "$desk" closed/desk
-chmod 000 closed/a.plan closed/a.sheet
+chmod 000 closed/a.plan closed/a.sheet closed/a.txt
 chmod 755 closed/desk
 chmod 555 closed
 
@@ -28,9 +30,16 @@ if plain --help >/dev/null 2>&1; then
         'desk: cannot create a temporary file beside closed/new: Permission denied' plain build a.plan closed/new
     expect 'sheet without permission' 2 '' 'desk: cannot write closed/a.sheet: Permission denied' \
         plain build a.plan closed/a.sheet
-    chmod 644 closed/a.sheet
+    expect 'unreadable plan: show' 2 '' 'desk: cannot open closed/a.plan: Permission denied' plain show closed/a.plan
+    expect 'unreadable text: write' 2 '' 'desk: cannot open closed/a.txt: Permission denied' plain write closed/a.txt new
+    expect 'folder without permission: write' 2 '' \
+        'desk: cannot create a temporary file beside closed/new: Permission denied' plain write a.txt closed/new
+    expect 'plan without permission: write' 2 '' 'desk: cannot write closed/a.plan: Permission denied' \
+        plain write a.txt closed/a.plan
+    chmod 644 closed/a.plan closed/a.sheet
     verdict 'the sheet without permission is untouched' cmp -s a.sheet closed/a.sheet
-    verdict 'nothing is left in the folder' holds closed a.plan a.sheet desk
+    verdict 'the plan without permission is untouched' cmp -s a.plan closed/a.plan
+    verdict 'nothing is left in the folder' holds closed a.plan a.sheet a.txt desk
 else
     skip 'permissions: no other user can be used here'
 fi

@@ -1,11 +1,11 @@
 /* Draws plans with loan days, spans and glued instruments and tries the library on them and on their damaged forms. */
+#include "compare.h"
 #include "draw.h"
 #include "plan.h"
 #include "plan_days.h"
 #include "plan_glue.h"
 #include "sheet.h"
 
-#include <inttypes.h>
 #include <stdlib.h>
 #include <string.h>
 
@@ -14,7 +14,6 @@
 
 /* What was tried. */
 struct tally {
-    size_t plans;     /* drawn */
     size_t given;     /* instruments that a team holds */
     size_t outside;   /* instruments given to a team out of its days */
     size_t turned;    /* days with from not below to */
@@ -25,7 +24,6 @@ struct tally {
     size_t glued;     /* glued instruments of plans without such a team */
     size_t reglued;   /* GLUEs of a glued instrument */
     size_t moved;     /* held instruments given to another team */
-    size_t failures;
     size_t causes[GLUE_MOUNT + 1]; /* the loose plans by cause */
 };
 
@@ -46,15 +44,6 @@ static void cut(size_t offset, size_t count)
 {
     plan.length -= count;
     memmove(plan.at + offset, plan.at + offset + count, plan.length - offset);
-}
-
-/* Prints a failure and counts it, unless two numbers are the same. */
-static void expect(const char *what, uint64_t wanted, uint64_t got)
-{
-    if (wanted == got)
-        return;
-    tally.failures++;
-    printf("plan %zu, %s: %" PRIu64 ", not %" PRIu64 "\n", tally.plans, what, got, wanted);
 }
 
 /* Tests that Build writes a sheet of the right length and no byte beyond, and that Check accepts it. */
@@ -185,7 +174,7 @@ static void try_turned(size_t offset, uint8_t *days)
 /* Tests a SHELF or a DAYS with its days turned, and a second one after it: in order it is 6, turned 17. */
 static void try_command(size_t offset)
 {
-    size_t size = 1 + plan_form(plan.at[offset])->size;
+    size_t size = 1 + plan_size(plan_form(plan.at[offset]));
     uint8_t again[1 + 5];
 
     try_turned(offset, plan.at + offset + size - PLAN_DAYS_SIZE);
@@ -375,7 +364,7 @@ int main(int argc, char *argv[])
     if (argc != 2)
         return 2;
     count = strtoul(argv[1], NULL, 10);
-    for (tally.plans = 0; tally.plans < count; tally.plans++) {
+    for (compared.plans = 0; compared.plans < count; compared.plans++) {
         draw_plan(&plan, &model);
         try_loose();
         try_build();
@@ -384,12 +373,12 @@ int main(int argc, char *argv[])
         try_commands();
         try_misplaced();
     }
-    printf("%zu plans, %zu given, %zu out of days, %zu turned, %zu repeated, %zu misplaced, %zu joints, ", tally.plans,
-           tally.given, tally.outside, tally.turned, tally.repeated, tally.misplaced, tally.joints);
+    printf("%zu plans, %zu given, %zu out of days, %zu turned, ", compared.plans, tally.given, tally.outside, tally.turned);
+    printf("%zu repeated, %zu misplaced, %zu joints, ", tally.repeated, tally.misplaced, tally.joints);
     printf("%zu loose (", tally.loose);
     for (size_t cause = GLUE_UNNAMED; cause <= GLUE_MOUNT; cause++)
         printf(cause == GLUE_UNNAMED ? "%zu" : " %zu", tally.causes[cause]);
     printf("), %zu glued, %zu reglued, %zu moved, %zu failures\n", tally.glued, tally.reglued, tally.moved,
-           tally.failures);
+           compared.failures);
     return fflush(stdout) == 0 ? 0 : 2;
 }

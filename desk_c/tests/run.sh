@@ -1,5 +1,6 @@
 #!/bin/sh
-# Runs the tests: run.sh FOLDER, where FOLDER holds the programs desk, desk_checked, desk_faults, words, list and random.
+# Runs the tests: run.sh FOLDER, where FOLDER holds the programs desk, desk_checked, desk_faults, words, list, calls,
+# random, answers and text.
 # The last line counts the tests; the exit status is 0 if none failed.
 set -u
 LC_ALL=C
@@ -18,7 +19,8 @@ absolute() {
 
 tests=$(absolute "$(dirname "$0")")
 built=$(absolute "$1")
-words=$built/words list=$built/list random=$built/random faults=$built/desk_faults
+words=$built/words list=$built/list calls=$built/calls random=$built/random answers=$built/answers text=$built/text
+faults=$built/desk_faults
 
 top=${TMPDIR:-/tmp}/desk-test-$$
 mkdir "$top" || exit 2
@@ -34,12 +36,13 @@ for program in desk desk_checked; do
     work=$top/$program
     mkdir "$work" && cd "$work" || exit 2
     write_samples
-    for group in plans sheets away days glue listings arguments reading writing permissions; do
+    for group in plans sheets away days glue listings arguments reading writing permissions texts writes shows rounds; do
         . "$tests/$group.sh"
     done
 done
 . "$tests/words.sh"
 . "$tests/list.sh"
+. "$tests/calls.sh"
 . "$tests/random.sh"
 . "$tests/faults.sh"
 

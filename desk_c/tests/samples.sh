@@ -87,6 +87,11 @@ ring_fit() {
     printf ' 09 %02x %02x %02x %02x %02x' "$1" $((mask & 255)) $((mask >> 8 & 255)) $((mask >> 16 & 255)) $((mask >> 24))
 }
 
+# Prints a FIT in hexadecimal: an instrument on all 32 mounts.
+full_fit() {
+    printf ' 09 %02x FF FF FF FF' "$1"
+}
+
 # Prints a command for each of 64 instruments in hexadecimal: for_each COMMAND
 for_each() {
     gauge=0
@@ -178,6 +183,7 @@ write_samples() {
     hex glued.plan $plan_glued
     hex glued.sheet $sheet_glued
     hex longest.plan 01 01 40 $(for_each long_shelf) $(twelve_teams 08 06 ring_fit '0B 07 00 0E 00' turn_glue)
+    hex full.plan 01 01 40 $(for_each long_shelf) $(twelve_teams 08 06 full_fit '0B 07 00 0E 00' turn_glue)
     hex loans.plan 01 01 40 $(for_each long_shelf) $(twelve_teams 08 06 ring_fit '0B 07 00 0E 00' :)
     hex rings.plan 01 01 40 $(twelve_teams 03 06 ring_span '' :)
     hex dealt.sheet $(dealt_sheet)

@@ -90,45 +90,17 @@ rm out/plan out/same
 verdict 'nothing is left after trouble' holds out new private zero
 
 # Full disks: a limit on file sizes, which every user may set, and where it is allowed a small disk of our own.
-limited() {
-    { (ulimit -f 0 && "$desk" build a.plan "$1" 2>&1; echo "status $?"); } | cat
-}
 expect 'a new sheet above the limit' 0 'desk: cannot write out/limited: File too large
-status 2' '' limited out/limited
+status 2' '' limited build a.plan out/limited
 expect 'a present sheet above the limit' 0 'desk: cannot write out/new: File too large
-status 2' '' limited out/new
+status 2' '' limited build a.plan out/new
 verdict 'the sheet is untouched at the limit' cmp -s zero.right out/new
 verdict 'nothing is left at the limit' holds out new private zero
 
-# Runs on a disk of 64 KB that holds a sheet and nothing more; prints what became of it.
-# shellcheck disable=SC2016
-on_full_disk() {
-    unshare -rm sh -c '
-        mount -t tmpfs -o size=64k tmpfs out && cp zero.right out/new || exit
-        dd if=/dev/zero of=out/filler bs=1024 2>/dev/null
-        "$1" build a.plan out/new
-        echo "status $?"
-        cmp zero.right out/new
-        ls -A out' sh "$desk"
-}
-mkdir mount.try
-if unshare -rm mount -t tmpfs -o size=64k tmpfs mount.try 2>/dev/null; then
-    expect 'a full disk' 0 'status 2
-filler
-new' 'desk: cannot write out/new: No space left on device' on_full_disk
-else
-    skip 'a full disk: no disk can be mounted here'
-fi
-rmdir mount.try
+full_disk out zero.right build a.plan
 
 # Many at once: one of them wins, whole.
-many() {
-    for many_plan in a a a a a a a a; do
-        "$desk" build $many_plan.plan out/many &
-    done
-    wait
-}
-quiet 'eight builds at once' many
+quiet 'eight builds at once' eight build a.plan out/many
 expect 'their sheet is accepted' 0 ACCEPTED '' "$desk" check a.plan out/many
 rm out/many
 verdict 'nothing is left after many' holds out new private zero
@@ -151,12 +123,7 @@ to_broken_pipe() {
     return $broken_status
 }
 for way in to_full to_closed to_broken_pipe; do
-    case $way in
-    to_full) reason='No space left on device' ;;
-    to_closed) reason='Bad file descriptor' ;;
-    *) reason='Broken pipe' ;;
-    esac
-    missed="desk: cannot write the result: $reason"
+    missed=$(missed_result $way)
     expect "help $way" 2 '' "$missed" $way --help
     expect "check $way" 2 '' "$missed" $way check a.plan a.sheet
     expect "refused check $way" 2 '' "$missed" $way check a.plan empty

@@ -5,6 +5,7 @@ use crate::form;
 use crate::plan::{self, Plan, Team, MOST_TEAMS};
 use crate::refusal::Refusal;
 use crate::sheet::{self, Layout};
+use std::ops::Range;
 
 /// Check as one number: 0, or the refusal's code.
 pub fn answer(file: &[u8], sheet: &[u8]) -> u64 {
@@ -16,15 +17,24 @@ pub fn check(file: &[u8], sheet: &[u8]) -> Result<(), Refusal> {
     judge(&plan::read(file)?, sheet)
 }
 
+/// Page as one number: 65,536 × the length of a team's page + its offset in the sheet; 0 for
+/// the empty page.
+pub fn page_answer(file: &[u8], sheet: &[u8], team: usize) -> u64 {
+    let page = page_range(file, sheet, team);
+    page.map_or(0, |page| 65_536 * page.len() as u64 + page.start as u64)
+}
+
 /// Page: a team's SHARE and PARTs of an accepted sheet, else the empty stretch.
 pub fn page<'a>(file: &[u8], sheet: &'a [u8], team: usize) -> &'a [u8] {
-    match plan::read(file) {
-        Ok(plan) if team < plan.teams.len() && judge(&plan, sheet).is_ok() => {
-            let layout = layout_of(&plan);
-            &sheet[layout.share(team)..layout.share(team + 1)]
-        }
-        _ => &[],
-    }
+    page_range(file, sheet, team).map_or(&[], |page| &sheet[page])
+}
+
+/// Where the page of a team in the plan stands in an accepted sheet.
+fn page_range(file: &[u8], sheet: &[u8], team: usize) -> Option<Range<usize>> {
+    let plan = plan::read(file).ok()?;
+    let accepted = team < plan.teams.len() && judge(&plan, sheet).is_ok();
+    let layout = layout_of(&plan);
+    accepted.then(|| layout.share(team)..layout.share(team + 1))
 }
 
 /// The layout of a plan's sheets.

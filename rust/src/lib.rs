@@ -1,5 +1,5 @@
 //! The instrument pool in plain Rust: reading plans, worth, building sheets,
-//! checking sheets, handing out one team's page and writing the weekly listing.
+//! checking sheets, handing out one team's page, writing the weekly listing, and the text of plans.
 
 #![deny(unsafe_code)]
 
@@ -24,6 +24,8 @@ pub mod random;
 pub mod refusal;
 pub mod sample;
 pub mod sheet;
+pub mod show;
+pub mod text;
 pub mod union_find;
 pub mod worth;
 pub mod writer;

@@ -7,6 +7,14 @@ use crate::plan::{Bipartite, Classes, Graph, Kind, Plan, Team};
 use crate::refusal::Refusal;
 use crate::union_find::UnionFind;
 
+/// Worth as one number: 0 to 64, or the refusal's code.
+pub fn answer(file: &[u8], team: usize, set: u64) -> u64 {
+    match worth(file, team, set) {
+        Ok(worth) => u64::from(worth),
+        Err(refusal) => refusal.code(),
+    }
+}
+
 /// The operation Worth: what a set is worth to a team of the plan in this file.
 /// Bits at or above m are passed over; a team not in the plan finds nothing of worth.
 pub fn worth(file: &[u8], team: usize, set: u64) -> Result<u32, Refusal> {

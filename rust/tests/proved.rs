@@ -398,23 +398,10 @@ fn listings_in_buffers_of_every_length() {
 
 #[test]
 fn listings_of_damaged_sheets() {
-    let mut random = Random::new(119);
     let mut tally = Tally::default();
-    for round in 0..cases() / 4 {
-        let most = if round % 50 == 0 { 64 } else { 8 };
-        let file = some_plan(&mut random, most, 12);
-        let plan = read(&file);
-        let sheet = own_sheet(&file);
-        for _ in 0..4 {
-            let other = damage(&mut random, &sheet, &file);
-            tally_listing(&mut random, &file, &other, &mut tally);
-            let mut other = sheet.clone();
-            for _ in 0..random.between(1, 4) {
-                damage_field(&mut random, &plan, &mut other);
-            }
-            tally_listing(&mut random, &file, &other, &mut tally);
-        }
-    }
+    sweeps::damaged_sheets(&mut Random::new(119), |random, file, sheet| {
+        tally_listing(random, file, sheet, &mut tally)
+    });
     tally.seen([0].into_iter().chain(10..=16));
 }
 
@@ -424,53 +411,27 @@ fn listings_of_every_byte_of_small_sheets() {
     let mut tally = Tally::default();
     let empty = PlanWriter::start(0).caps(0).end();
     for file in [plan_a(), empty, six_instruments()] {
-        let sheet = own_sheet(&file);
-        for at in 0..sheet.len() {
-            for value in 0..=255 {
-                let mut other = sheet.clone();
-                other[at] = value;
-                tally_listing(&mut random, &file, &other, &mut tally);
-            }
-        }
+        sweeps::every_byte_of_sheet(&file, |sheet| {
+            tally_listing(&mut random, &file, sheet, &mut tally)
+        });
     }
     tally.seen([0, 10, 12, 13, 14, 15].into_iter());
 }
 
 #[test]
 fn listings_by_damaged_plans() {
-    let mut random = Random::new(121);
     let mut tally = Tally::default();
-    let mut last = plan_a();
-    for _ in 0..cases() / 2 {
-        let file = some_plan(&mut random, 6, 12);
-        let sheet = own_sheet(&file);
-        for other in [
-            damage(&mut random, &file, &last),
-            damage_commands(&mut random, &file),
-            loose_commands(&mut random),
-        ] {
-            tally_listing(&mut random, &other, &sheet, &mut tally);
-        }
-        last = file;
-    }
+    sweeps::damaged_plans(&mut Random::new(121), |random, file, sheet| {
+        tally_listing(random, file, sheet, &mut tally)
+    });
     tally.seen((0..=11).chain([17, 18]));
 }
 
 #[test]
 fn listings_of_any_bytes() {
-    let mut random = Random::new(122);
     let mut tally = Tally::default();
-    for _ in 0..cases() {
-        let file = some_plan(&mut random, 3, 2);
-        let size = layout_of(&read(&file)).length();
-        let other = random.below(200);
-        let length = random.pick(&[0, size, size, other]);
-        let sheet: Vec<u8> = (0..length).map(|_| random.byte()).collect();
-        tally_listing(&mut random, &file, &sheet, &mut tally);
-        tally_listing(&mut random, &sheet, &file, &mut tally);
-    }
-    let (file, sheet) = (plan_a(), own_sheet(&plan_a()));
-    tally_listing(&mut random, &vec![0x01; 70_000], &sheet, &mut tally);
-    tally_listing(&mut random, &file, &vec![0x11; 70_000], &mut tally);
-    same_listing(&file, &sheet, 70_000, 13);
+    sweeps::any_bytes(&mut Random::new(122), |random, file, sheet| {
+        tally_listing(random, file, sheet, &mut tally)
+    });
+    same_listing(&plan_a(), &own_sheet(&plan_a()), 70_000, 13);
 }

@@ -12,7 +12,7 @@ ghost use Rattle.command.specs.Rule.{firstBroken};
 ghost use Rattle.checker.specs.Check.{divisionRules, verdictOf, checkSheet};
 ghost use Rattle.checker.specs.Told.{CheckTold};
 ghost use Rattle.checker.specs.Fair.{Fair};
-ghost use Rattle.checker.specs.Page.{accepts, pageOf};
+ghost use Rattle.checker.specs.Page.{accepts, stretchOf, pageOf};
 use plan::Reading;
 
 mod division;
@@ -116,17 +116,36 @@ fn accepted(v: Verdict) -> bool
     }
 }
 
-// A team's SHARE and PARTs, as a part of an accepted sheet, and else an empty part.
-pub fn page<'a>(plan: &[u8], sheet: &'a [u8], team: usize) -> &'a [u8]
-    ensures { λ p. ⌜ now p ≡ pageOf (now (plan .entry)) (now (sheet .entry)) team ⌝ }
+// Where a page stands in its sheet: `start` is its first byte, `end` the one after its last.
+pub struct Stretch {
+    pub start: usize,
+    pub end: usize,
+}
+
+// Where a team's SHARE and PARTs stand in an accepted sheet, and else the empty stretch at 0.
+pub fn page_stretch(plan: &[u8], sheet: &[u8], team: usize) -> Stretch
+    ensures { λ s. ⌜ s ≡ stretchOf (now (plan .entry)) (now (sheet .entry)) team ⌝ }
 {
     let r = plan::read(plan);
     if team < r.n {
         if accepted(judge(r, sheet)) {
             let start = sheet::share_start(r.m, team);
             let end = start + 11 + 3 * r.m;
-            return &sheet[start..end];
+            return Stretch {
+                start: start,
+                end: end,
+            };
         }
     }
-    &sheet[0..0]
+    Stretch { start: 0, end: 0 }
+}
+
+// A team's SHARE and PARTs, as a part of an accepted sheet, and else an empty part.
+pub fn page<'a>(plan: &[u8], sheet: &'a [u8], team: usize) -> &'a [u8]
+    ensures { λ p. ⌜ now p ≡ pageOf (now (plan .entry)) (now (sheet .entry)) team ⌝ }
+{
+    let s = page_stretch(plan, sheet, team);
+    let start = s.start;
+    let end = s.end;
+    &sheet[start..end]
 }

@@ -7,9 +7,18 @@ use native.Mathlib.Omega.{arith}
 use lib.Dec.{eqb, ltb}
 use lib.ListN.{length}
 use borrow.Author.Tests.{eqb-true}
+use Rattle.matroid.proofs.Sets.{size-le}
+use Rattle.matroid.proofs.Rank.{worth-le-size}
+use Rattle.sets.specs.Bits.{bit}
+use Rattle.plan.specs.declared.Answer.{Answer}
+use Rattle.plan.specs.declared.Answer.the-variants as answer
 use Rattle.plan.specs.declared.Reading.{Reading}
 use Rattle.plan.specs.Read.{readPlan}
+use Rattle.plan.specs.Teams.{teamMatroid}
+use Rattle.plan.specs.Worth.{worthAnswer, worthNumber, worthPlace, worthValue, WorthTold}
+use Rattle.plan.proofs.Answers.{answer-told}
 use Rattle.plan.proofs.Bounds.{bounded}
+use Rattle.plan.proofs.Numbers.{read-most}
 use Rattle.sheet.specs.Layout.{lengthOf}
 use Rattle.sheet.proofs.Sizes.{length-le}
 use Rattle.checker.specs.declared.Verdict.{Verdict}
@@ -26,11 +35,11 @@ use Rattle.listing.specs.Listing.{listingBy}
 use Rattle.listing.specs.Lent.{textAnswer}
 use Rattle.listing.specs.List.{answerBy, listAnswer, listBytes}
 use Rattle.listing.proofs.Most.{listing-most}
-use Rattle.desk.specs.Desk.{deskBuilt, deskVerdict}
+use Rattle.desk.specs.Desk.{deskBuilt, deskVerdict, deskWorth}
 use Rattle.desk.proofs.Small.{built-small, verdict-small, list-small}
-use Rattle.demands.specs.Desk.{DeskBuilds, DeskLists, DeskChecks}
+use Rattle.demands.specs.Desk.{DeskBuilds, DeskLists, DeskChecks, DeskValues}
 use Rattle.demands.proofs.Refusing.{builds, checks}
-use Rattle.demands.proofs.Ranking.{check-accepts}
+use Rattle.demands.proofs.Ranking.{values, check-accepts}
 use Rattle.demands.proofs.Listing.{lists}
 
 -- one number of Build's answer
@@ -109,3 +118,43 @@ desk-lists plan sheet before after k is bytes = record {
   where
     a : Built
     a = listAnswer plan sheet before
+
+-- one number of Worth's
+worth-one : (a : Answer) → deskWorth a ≡ 65536 * worthNumber a + worthPlace a + worthValue a
+worth-one (answer.Refused number place) = omega arith
+worth-one (answer.Worth worth) = omega arith
+
+-- no set is worth more than there are instruments
+worth-small : (plan : List ℕ) (team set : ℕ) (a : Answer) → WorthTold plan team set a → worthValue a ≤ 64
+worth-small plan team set (answer.Refused number place) told = omega arith
+worth-small plan team set (answer.Worth worth) told =
+    let v = bounded plan .valid (sym (told .number)) in
+    let small = v .small in
+    let most = worth-le-size (teamMatroid (readPlan plan) team) (bit set) in
+    let all = size-le (readPlan plan .m) (bit set) in
+    let value = told .value in
+    omega arith
+
+pub desk-values : (plan : List ℕ) (team set k : ℕ) → k ≡ deskWorth (worthAnswer plan team set) → DeskValues plan team set k
+desk-values plan team set k is = record {
+  number = worthNumber a;
+  place = worthPlace a;
+  worth = worthValue a;
+  is = is ∙ worth-one a;
+  small = (
+    let e = told .number in
+        let l = read-most plan in
+        omega arith,
+    let e = told .place in
+        let l = bounded plan .place in
+        omega arith,
+    worth-small plan team set a told,
+  );
+  values = values plan team set a told;
+}
+  where
+    a : Answer
+    a = worthAnswer plan team set
+
+    told : WorthTold plan team set a
+    told = answer-told plan team set a refl .1

@@ -1,5 +1,5 @@
 // The functions for C callers: "a refusal is 65,536 × its number + its place".
-ghost use Rattle.demands.specs.Desk.{DeskBuilds, DeskLists, DeskChecks};
+ghost use Rattle.demands.specs.Desk.{DeskBuilds, DeskLists, DeskChecks, DeskValues, DeskPages};
 ghost use Rattle.demands.specs.Three.{Writes};
 
 // Build.
@@ -22,4 +22,18 @@ pub fn check(file: &[u8], sheet: &[u8]) -> u64
     ensures { λ r. ⌜ DeskChecks (now (file .entry)) (now (sheet .entry)) r ⌝ }
 {
     desk::pool_check(file, sheet)
+}
+
+// Worth.
+pub fn worth(file: &[u8], team: usize, set: u64) -> u64
+    ensures { λ r. ⌜ DeskValues (now (file .entry)) team set r ⌝ }
+{
+    desk::pool_worth(file, team, set)
+}
+
+// Page.
+pub fn page(file: &[u8], sheet: &[u8], team: usize) -> u64
+    ensures { λ r. ⌜ DeskPages (now (file .entry)) (now (sheet .entry)) team r ⌝ }
+{
+    desk::pool_page(file, sheet, team)
 }

@@ -10,8 +10,11 @@ use lib.ListN.{length}
 use borrow.Author.Tests.{ltb-true, eqb-true}
 use Rattle.matroid.specs.Search.{All}
 use Rattle.plan.specs.declared.Reading.{Reading}
+use Rattle.plan.specs.declared.Answer.{Answer}
+use Rattle.plan.specs.declared.Answer.the-variants as answer
 use Rattle.command.specs.Rule.{Rule, firstBroken}
 use Rattle.plan.specs.Read.{readPlan}
+use Rattle.plan.specs.Worth.{worthNumber, worthPlace, WorthTold}
 use Rattle.plan.proofs.Bounds.{bounded}
 use Rattle.plan.proofs.Numbers.{read-most}
 use Rattle.sheet.specs.Layout.{lengthOf}
@@ -27,6 +30,16 @@ use Rattle.listing.specs.Listing.{listingBy}
 use Rattle.listing.specs.Lent.{textAnswer}
 use Rattle.listing.specs.List.{answerBy as listAnswerBy, listAnswer}
 use Rattle.listing.proofs.Most.{listing-most}
+
+-- ---- Worth's refusals: Read's
+
+pub worth-told : (plan : List ℕ) (team set : ℕ) (a : Answer) (n p : ℕ) → WorthTold plan team set a → a ≡ answer.Refused n p → (n ≤ 18) × (p < 65536)
+worth-told plan team set a n p w t =
+    let most = read-most plan in
+    let inside = bounded plan .place in
+    let number′ = sym (ap worthNumber t) ∙ w .number in
+    let place′ = sym (ap worthPlace t) ∙ w .place in
+    (omega arith, omega arith)
 
 -- ---- Build's refusals
 

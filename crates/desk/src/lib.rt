@@ -1,11 +1,26 @@
-// The desk interface: Build, Check and the listing on byte buffers, answering one number, for programs in other languages.
+// The desk interface: every operation on byte buffers, answering one number, for programs in other languages.
 ghost use mathlib.Core.Path.{_≡_};
 ghost use Rattle.builder.specs.Build.{buildAnswer, Answered};
 ghost use Rattle.checker.specs.Check.{checkSheet};
 ghost use Rattle.listing.specs.List.{listAnswer, listBytes};
-ghost use Rattle.desk.specs.Desk.{deskBuilt, deskVerdict};
+ghost use Rattle.checker.specs.Page.{stretchOf};
+ghost use Rattle.plan.specs.Worth.{worthAnswer};
+ghost use Rattle.desk.specs.Desk.{deskBuilt, deskVerdict, deskWorth, deskPage};
 use builder::Built;
 use checker::Verdict;
+use plan::Answer;
+
+// Worth: what a set is worth to a team, or 65,536 × the refusal's number + its place.
+#[no_mangle]
+pub extern "C" fn pool_worth(plan: &[u8], team: usize, set: u64) -> u64
+    ensures { λ r. ⌜ r ≡ deskWorth (worthAnswer (now (plan .entry)) team set) ⌝ }
+{
+    let a = plan::worth(plan, team, set);
+    match a {
+        Answer::Refused(number, place) => 65536 * (number as u64) + (place as u64),
+        Answer::Worth(worth) => worth as u64,
+    }
+}
 
 // Build: the sheet's length, or 65,536 × the refusal's number + its place.
 #[no_mangle]
@@ -30,6 +45,15 @@ pub extern "C" fn pool_check(plan: &[u8], sheet: &[u8]) -> u64
         Verdict::Accepted => 0,
         Verdict::Refused(number, place) => 65536 * (number as u64) + (place as u64),
     }
+}
+
+// Page: 65,536 × the length + the offset of a team's page in the sheet, or 0 for the empty page.
+#[no_mangle]
+pub extern "C" fn pool_page(plan: &[u8], sheet: &[u8], team: usize) -> u64
+    ensures { λ r. ⌜ r ≡ deskPage (stretchOf (now (plan .entry)) (now (sheet .entry)) team) ⌝ }
+{
+    let s = checker::page_stretch(plan, sheet, team);
+    65536 * ((s.end - s.start) as u64) + (s.start as u64)
 }
 
 // The weekly listing of a sheet: its length, or 65,536 × the refusal's number + its place.

@@ -9,6 +9,8 @@ pub mod joints;
 pub mod nets;
 #[cfg(proved)]
 pub mod proved;
+pub mod sweeps;
+pub mod texts;
 
 use pool::check::layout_of;
 use pool::plan::{commands, operand_count, Plan, Team};
