@@ -7,7 +7,7 @@ use exchange::Agents;
 pub mod write;
 
 // What Build answers: a refusal's number and place, or how many bytes the sheet has.
-#[derive(Drop)]
+#[derive(Clone, Copy)]
 pub enum Built {
     Refused(usize, usize),
     Wrote(usize),

@@ -18,7 +18,7 @@ mod division;
 mod shares;
 
 // What Check answers: a refusal has its number and place.
-#[derive(Drop)]
+#[derive(Clone, Copy)]
 pub enum Verdict {
     Accepted,
     Refused(usize, usize),
@@ -117,7 +117,7 @@ fn accepted(v: Verdict) -> bool
 }
 
 // Where a page stands in its sheet: `start` is its first byte, `end` the one after its last.
-#[derive(Drop)]
+#[derive(Clone, Copy)]
 pub struct Stretch {
     pub start: usize,
     pub end: usize,

@@ -107,7 +107,7 @@ pub fn width(command: Command) -> usize
 }
 
 // A command, and the offset after it.
-#[derive(Drop)]
+#[derive(Clone, Copy)]
 pub struct Found {
     pub command: Command,
     pub end: usize,

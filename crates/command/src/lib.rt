@@ -3,7 +3,7 @@ pub mod decode;
 pub mod reader;
 
 // What stands at an offset of the file.
-#[derive(Drop)]
+#[derive(Clone, Copy)]
 pub enum Command {
     // The file ends here.
     Missing,
@@ -26,7 +26,7 @@ pub enum Command {
 }
 
 // What has been read besides the teams: the count of instruments, the count of teams, and which classes of the open team are capped.
-#[derive(Drop)]
+#[derive(Clone, Copy)]
 pub struct State {
     pub m: usize,
     pub n: usize,

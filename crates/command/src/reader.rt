@@ -5,14 +5,14 @@ ghost use Rattle.command.specs.Reader.{reader_at, next_of};
 use super::{Command, decode};
 
 // A file, and the offset of its next command.
-#[derive(Drop)]
+#[derive(Clone, Copy)]
 pub struct Reader<'a> {
     pub file: &'a [u8],
     pub at: usize,
 }
 
 // The command that a reader hands out, and the reader moved past it.
-#[derive(Drop)]
+#[derive(Clone, Copy)]
 pub struct Next<'a> {
     pub command: Command,
     pub reader: Reader<'a>,

@@ -4,7 +4,7 @@ ghost use Rattle.sets.specs.Bits.{word};
 ghost use Rattle.days.specs.Days.{always, dated, day_of, given, within, usable_on};
 
 // From a day, which is included, to a day, which is not. Days count from the pool's first, day 0.
-#[derive(Drop)]
+#[derive(Clone, Copy)]
 pub struct Days {
     pub from: u16,
     pub to: u16,

@@ -13,7 +13,7 @@ fn allowed(v: Valuation, m: usize, n: usize, set: u64) -> usize
 }
 
 // A number that no share exceeds, and the set that shows it.
-#[derive(Drop)]
+#[derive(Clone, Copy)]
 pub struct Quota {
     pub share: usize,
     pub bound: u64,
@@ -41,7 +41,7 @@ pub fn quota_of(v: Valuation, m: usize, n: usize) -> Quota
 }
 
 // A cut into parts, and whether each part was seen to be worth a share.
-#[derive(Drop)]
+#[derive(Clone, Copy)]
 pub struct Deal {
     pub whole: bool,
     pub part: [u8; 64],

@@ -12,7 +12,7 @@ use exchange::Agents;
 use holding::Holding;
 
 // All that a sheet needs: who holds what, the set that bounds the total, and each agent's share with its certificates.
-#[derive(Drop)]
+#[derive(Clone, Copy)]
 pub struct Division {
     pub holding: Holding,
     pub bound: u64,

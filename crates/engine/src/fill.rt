@@ -9,7 +9,7 @@ use exchange::search::search;
 use holding::Holding;
 
 // A holding of greatest total, and the set that bounds every total.
-#[derive(Drop)]
+#[derive(Clone, Copy)]
 pub struct Filled {
     pub holding: Holding,
     pub bound: u64,

@@ -12,7 +12,7 @@ use holding::Holding;
 
 // Who holds what between two turns, as a table, a word for each bundle and one for the pool, and how many instruments each agent may take in the
 // next round.
-#[derive(Drop)]
+#[derive(Clone, Copy)]
 pub struct Offer {
     pub owner: [u8; 64],
     pub bundles: [u64; 12],

@@ -10,7 +10,7 @@ use exchange::Agents;
 use kinds::Valuation;
 
 // A share, the set that bounds it, and a cut into parts each worth the share.
-#[derive(Drop)]
+#[derive(Clone, Copy)]
 pub struct Shared {
     pub share: u8,
     pub bound: u64,

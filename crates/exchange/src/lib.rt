@@ -5,7 +5,7 @@ pub mod chains;
 pub mod search;
 
 // Who takes part: n agents among m instruments, each with its own valuation.
-#[derive(Drop)]
+#[derive(Clone, Copy)]
 pub struct Agents {
     pub m: usize,
     pub n: usize,

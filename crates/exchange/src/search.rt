@@ -7,7 +7,7 @@ use super::Agents;
 use kinds::Valuation;
 
 // What a search has reached: the instruments, the one each was reached from (255: a source can gain it), and the agent that gets it.
-#[derive(Drop)]
+#[derive(Clone, Copy)]
 pub struct Trace {
     pub seen: u64,
     pub parent: [u8; 64],
@@ -15,7 +15,7 @@ pub struct Trace {
 }
 
 // How a search ends: with a chain's end, or with nothing more to reach.
-#[derive(Drop)]
+#[derive(Clone, Copy)]
 pub struct Reached {
     pub found: bool,
     pub end: usize,

@@ -1,4 +1,6 @@
 // Who holds each instrument, with the size of each bundle and the shortfall, and the operations that change it: give, return and chain.
+#![tactic(auto)]
+
 ghost use Rattle.std.specs.Prelude.{◌≡◌, true, ◌≤◌, ◌<◌, min, get_or};
 ghost use Rattle.matroid.specs.Sum.{sum};
 ghost use Rattle.matroid.specs.Shortfall.{shortfall};
@@ -12,7 +14,7 @@ ghost use Rattle.holding.specs.Words.{Pool};
 // The owner of each instrument. Instruments are the numbers below m and 64, teams those below n and 12; an instrument whose owner is no
 // team is in the pool (255 is what is written there). Beside the owners: the shares it is measured against, the size of each bundle (0 beyond the
 // last team), and the sum over short teams of share minus size.
-#[derive(Drop)]
+#[derive(Clone, Copy)]
 pub struct Holding {
     pub m: usize,
     pub n: usize,
@@ -23,7 +25,7 @@ pub struct Holding {
 }
 
 // A list of moves: instrument item[k] goes to team to[k].
-#[derive(Drop)]
+#[derive(Clone, Copy)]
 pub struct Moves {
     pub count: usize,
     pub item: [u8; 64],
@@ -61,7 +63,7 @@ fn shortfall_of(n: usize, shares: [u8; 12], sizes: [u8; 12]) -> usize
 }
 
 // The counts of a holding alone: the shares it is measured against, the size of each bundle, and the shortfall.
-#[derive(Drop)]
+#[derive(Clone, Copy)]
 pub struct Tally {
     pub shares: [u8; 12],
     pub sizes: [u8; 12],

@@ -12,7 +12,7 @@ mod channels;
 mod structure;
 
 // What an agent values: a set of usable instruments, by what its team gains with it above the instruments that are glued to it.
-#[derive(Drop)]
+#[derive(Clone, Copy)]
 pub struct Valuation {
     pub team: Team,
     pub usable: u64,

@@ -44,7 +44,7 @@ fn words(
 }
 
 // The mounts that each instrument fits, and a matching of as many members of a set as can be.
-#[derive(Drop)]
+#[derive(Clone, Copy)]
 struct Begun {
     fits: [u64; 64],
     held: Matching,

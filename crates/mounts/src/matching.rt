@@ -7,7 +7,7 @@ ghost use Rattle.mounts.specs.Matching.{fits_in, Matched, Leads, Closed, Found, 
 use sets::wide;
 
 // The instruments that have a mount, the mounts that are free, and the instrument on each mount that is not.
-#[derive(Drop)]
+#[derive(Clone, Copy)]
 pub struct Matching {
     pub taken: u64,
     pub free: u64,
@@ -16,7 +16,7 @@ pub struct Matching {
 
 // The mounts that can be freed. The instrument on one can move to the mount `next`, found before it; `depth` says how late a mount was found,
 // `grew` whether the last pass found one.
-#[derive(Drop)]
+#[derive(Clone, Copy)]
 pub struct Freed {
     pub set: u64,
     pub grew: bool,

@@ -22,7 +22,7 @@ mod step;
 mod usable;
 
 // What reading a file comes to. After a refusal all but its number and place is 0.
-#[derive(Drop)]
+#[derive(Clone, Copy)]
 pub struct Reading {
     pub refusal: usize,
     pub place: usize,
@@ -178,7 +178,7 @@ pub fn present_of(r: Reading) -> u64
 }
 
 // What Worth answers.
-#[derive(Drop)]
+#[derive(Clone, Copy)]
 pub enum Answer {
     Refused(usize, usize),
     Worth(usize),

@@ -10,7 +10,7 @@ use command::{Command, State};
 pub const TABLE: usize = 14 * row::WIDTH;
 
 // What has been read besides the teams; where reading has stopped, the rule that is broken (0: none, at an END) and the offset.
-#[derive(Drop)]
+#[derive(Clone, Copy)]
 pub struct Progress {
     pub s: State,
     pub stopped: bool,

@@ -6,7 +6,7 @@ use super::{below, picked};
 use team::Team;
 
 // A team, the instruments that it can use on its days, those that are glued to it, and those that are glued to anyone.
-#[derive(Drop)]
+#[derive(Clone, Copy)]
 pub struct Site {
     pub team: Team,
     pub usable: u64,

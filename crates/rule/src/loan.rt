@@ -6,7 +6,7 @@ use std::num::wrapping_sub_u64;
 use team::Team;
 
 // Days: "from is included, to is not".
-#[derive(Drop)]
+#[derive(Clone, Copy)]
 pub struct Loan {
     pub from: u64,
     pub to: u64,

@@ -1,4 +1,6 @@
 // A set of instruments as a 64-bit word: bit k stands for instrument k.
+#![tactic(auto)]
+
 ghost use Rattle.std.specs.Prelude.{◌≡◌, ◌&&◌, not, ℕ, ◌<◌, ◌≤◌, length};
 ghost use Rattle.matroid.specs.Set.{◌∪◌, ◌∩◌, ◌∖◌, only, with, without, under, complement, size};
 ghost use Rattle.sets.specs.Bits.{bit};

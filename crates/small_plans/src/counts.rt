@@ -4,7 +4,7 @@ use std::num::wrapping_add_u64;
 
 // What is counted. In the first group are the plans, in the second their loan days, in the third their glued instruments, in the fourth the sheets
 // that Build writes, in the fifth sheets with one byte changed.
-#[derive(Drop)]
+#[derive(Clone, Copy)]
 pub struct Counts {
     pub plans: u64,
     // plans with a team away, and with no team present

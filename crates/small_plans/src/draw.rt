@@ -6,7 +6,7 @@ use team::Team;
 
 // What each part of a plan is drawn from: eight bytes for the count of instruments, the count of teams, and a team's kind, channels, caps,
 // classes, joints and mounts; a byte of the mounts stands for eight.
-#[derive(Drop)]
+#[derive(Clone, Copy)]
 pub struct Family {
     pub counts: [u8; 8],
     pub teams: [u8; 8],
@@ -22,14 +22,14 @@ pub struct Family {
 const NAMED: [u8; 8] = [9, 9, 9, 9, 9, 9, 9, 255];
 
 // A table of bytes, and the last number drawn for it.
-#[derive(Drop)]
+#[derive(Clone, Copy)]
 struct Table {
     bytes: [u8; 64],
     x: u64,
 }
 
 // A team, and the last number drawn for it.
-#[derive(Drop)]
+#[derive(Clone, Copy)]
 struct DrawnTeam {
     team: Team,
     x: u64,
@@ -37,7 +37,7 @@ struct DrawnTeam {
 
 // A plan, and the last number drawn for it. In the pool SHELFs name the instruments as FITs do in a MOUNTS team. The instruments glued to each
 // team are a set.
-#[derive(Drop)]
+#[derive(Clone, Copy)]
 pub struct Drawing {
     pub m: usize,
     pub n: usize,

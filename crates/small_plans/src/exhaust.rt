@@ -9,7 +9,7 @@ use std::num::wrapping_add_u64;
 
 // What the search finds of a plan of m instruments and n teams: who is present, the table of worths, the greatest total, the bundles of the
 // first division that comes to it, and each team's share.
-#[derive(Drop)]
+#[derive(Clone, Copy)]
 pub struct Found {
     pub m: usize,
     pub n: usize,

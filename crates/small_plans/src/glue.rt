@@ -9,7 +9,7 @@ use rule::glue::Site;
 const TEAMS: [u8; 8] = [0, 1, 2, 255, 255, 255, 255, 255];
 
 // The instruments glued to each of three teams, and the last number drawn for them.
-#[derive(Drop)]
+#[derive(Clone, Copy)]
 struct Drawn {
     glued: [u64; 3],
     x: u64,

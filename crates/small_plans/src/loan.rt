@@ -6,7 +6,7 @@ use crate::draw::Drawing;
 use team::Team;
 
 // What the days are drawn from: eight bytes for the command of an instrument and of a team, 255 for none, and eight days for each end.
-#[derive(Drop)]
+#[derive(Clone, Copy)]
 pub struct Ends {
     pub shelf: [u8; 8],
     pub shelf_from: [u16; 8],
@@ -17,14 +17,14 @@ pub struct Ends {
 }
 
 // A command and its days, as five bytes, and the last number drawn for them.
-#[derive(Drop)]
+#[derive(Clone, Copy)]
 struct Drawn {
     bytes: [u8; 5],
     x: u64,
 }
 
 // A team with its days, or the pool, and the last number drawn for it.
-#[derive(Drop)]
+#[derive(Clone, Copy)]
 struct DrawnTeam {
     team: Team,
     x: u64,

@@ -4,7 +4,7 @@ ghost use Rattle.std.specs.Prelude.{◌≤◌};
 use command::decode::byte_at;
 
 // The total, what each of four teams holds, and the share of each.
-#[derive(Drop)]
+#[derive(Clone, Copy)]
 pub struct Stated {
     pub total: u64,
     pub bundles: [u64; 4],

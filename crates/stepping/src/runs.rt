@@ -3,7 +3,7 @@ use crate::numbers;
 use lines::print;
 
 // The first and the last instrument, and the number that all of them go with.
-#[derive(Drop)]
+#[derive(Clone, Copy)]
 pub struct Run {
     pub first: usize,
     pub last: usize,

@@ -7,7 +7,7 @@ use crate::{numbers, runs};
 use holding::Holding;
 
 // What is written: the owners, and the shares with how many there are.
-#[derive(Drop)]
+#[derive(Clone, Copy)]
 struct Start {
     owner: [u8; 64],
     given: usize,

@@ -1,4 +1,6 @@
 // One team of a plan: its kind and its operands, as the plan file names them.
+#![tactic(auto)]
+
 ghost use Rattle.std.specs.Prelude.{◌≡◌};
 ghost use Rattle.team.specs.Team.{blank_team};
 
@@ -6,7 +8,7 @@ ghost use Rattle.team.specs.Team.{blank_team};
 pub const JOINTS: usize = 40;
 
 // A team's kind (the byte that opens it) and operands. 255 stands wherever the file names nothing.
-#[derive(Drop)]
+#[derive(Clone, Copy)]
 pub struct Team {
     pub kind: u8,
     pub channels: u8,

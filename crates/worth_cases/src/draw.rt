@@ -6,7 +6,7 @@ use team::Team;
 
 // What each part of a case is drawn from: eight bytes for the kind, the count of instruments, the channels, a cap, the command that names an
 // instrument, and each operand of that command after the instrument: a class, a joint or eight mounts.
-#[derive(Drop)]
+#[derive(Clone, Copy)]
 pub struct Family {
     pub kinds: [u8; 8],
     pub counts: [u8; 8],
@@ -17,21 +17,21 @@ pub struct Family {
 }
 
 // A table of bytes, and the last number drawn for it.
-#[derive(Drop)]
+#[derive(Clone, Copy)]
 struct Table {
     bytes: [u8; 64],
     x: u64,
 }
 
 // A set, and the last number drawn for it.
-#[derive(Drop)]
+#[derive(Clone, Copy)]
 struct Word {
     set: u64,
     x: u64,
 }
 
 // The four operands of each instrument's command, and the last number drawn for them.
-#[derive(Drop)]
+#[derive(Clone, Copy)]
 struct Four {
     first: [u8; 64],
     second: [u8; 64],
@@ -41,14 +41,14 @@ struct Four {
 }
 
 // A team, and the last number drawn for it.
-#[derive(Drop)]
+#[derive(Clone, Copy)]
 struct DrawnTeam {
     team: Team,
     x: u64,
 }
 
 // A valuation, a count of instruments and a set, the instruments that are usable by the definition, and the last number drawn for them.
-#[derive(Drop)]
+#[derive(Clone, Copy)]
 pub struct Case {
     pub valuation: Valuation,
     pub m: usize,

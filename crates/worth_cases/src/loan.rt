@@ -10,7 +10,7 @@ use team::Team;
 
 // What the days are drawn from: eight bytes for the low byte of each end of the shelf days and of the team's, and for the high byte of every from
 // and every to.
-#[derive(Drop)]
+#[derive(Clone, Copy)]
 pub struct Ends {
     pub shelf_from: [u8; 8],
     pub shelf_to: [u8; 8],
@@ -21,14 +21,14 @@ pub struct Ends {
 }
 
 // A command with its days, as five bytes, and the last number drawn for it.
-#[derive(Drop)]
+#[derive(Clone, Copy)]
 struct Named {
     bytes: [u8; 5],
     x: u64,
 }
 
 // A pool, in which SHELFs name the instruments, and the last number drawn for it.
-#[derive(Drop)]
+#[derive(Clone, Copy)]
 struct Pool {
     team: Team,
     x: u64,

@@ -18,7 +18,7 @@ pub const GLUED: u8 = 1;
 pub const LENT: u8 = 2;
 
 // Of the cases so far: the worths added up, the instruments gained, and how many answers differ from the definition's.
-#[derive(Drop)]
+#[derive(Clone, Copy)]
 struct Tally {
     worth: u64,
     gains: u64,
