@@ -1,31 +1,32 @@
 // Give, return and chain of a holding, carried out and refused. Each line of standard input is answered by one line. An empty line and one
 // that starts with `#` come back as they are; any other line is a case: a holding, and then steps, each after a semicolon.
-use libc::STDIN_FILENO;
-use lines::print;
+use lines::{input, print};
+use std::io;
 
 // Answers a line.
-fn answer(line: &[u8]) {
+fn answer(rt: &impl Print, line: &[u8]) -> io::Result<()> {
     if lines::is_note(line) {
-        print::text(line);
+        print::text(rt, line)?;
     } else {
-        stepping::answer(line);
+        stepping::answer(rt, line)?;
     }
-    print::text(b"\n");
+    print::text(rt, b"\n")
 }
 
 // Answers each line of a text.
-fn run(text: &[u8]) {
+fn run(rt: &impl Print, text: &[u8]) -> io::Result<()> {
     let mut at: usize = 0;
     while at < text.len() {
         let end = lines::line_end(text, at);
-        answer(&text[at..end]);
+        answer(rt, &text[at..end])?;
         at = end + 1;
     }
+    Ok(())
 }
 
 // Of standard input the first 65,536 bytes are read.
-fn main() {
-    let mut space = io::large_buffer();
-    let n = io::read_full(STDIN_FILENO, &mut space);
-    run(&space[..n]);
+fn main(rt: HostRuntime) -> io::Result<()> {
+    let mut space = [0u8; 65536];
+    let n = input::read_full(&rt, &mut space)?;
+    run(&rt, &space[..n])
 }

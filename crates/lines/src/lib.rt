@@ -1,7 +1,10 @@
 // Lines of text as byte slices: their ends and words, and the numbers written in them; and the printing of answers to them.
-ghost use Rattle.std.specs.Prelude.{◌+◌, ◌≤◌, ◌<◌, length};
-ghost use Rattle.io.specs.Counts.{IsPrefixLen};
+#![tactic(auto)]
 
+ghost use Rattle.std.specs.Prelude.{◌+◌, ◌≤◌, ◌<◌, length};
+ghost use Rattle.lines.specs.Counts.{IsPrefixLen};
+
+pub mod input;
 pub mod print;
 
 // Whether a line is empty or a note.

@@ -1,28 +1,27 @@
-// Standard output, piece by piece.
-use libc::STDOUT_FILENO;
+// Standard output, piece by piece. A write that fails is answered by its error.
+use std::io;
 
 // Bytes as they are.
-pub fn text(bytes: &[u8]) {
-    io::write_all(STDOUT_FILENO, bytes);
+pub fn text(rt: &impl Print, bytes: &[u8]) -> io::Result<()> {
+    rt.write_all(bytes)
 }
 
 // A number in decimal, after a mark such as a space.
-pub fn marked(mark: &[u8], n: u64) {
-    text(mark);
-    io::print_decimal(STDOUT_FILENO, n);
+pub fn marked(rt: &impl Print, mark: &[u8], n: u64) -> io::Result<()> {
+    text(rt, mark)?;
+    print!(rt; "{n}")
 }
 
 // `REFUSED`, the number and the place of a refusal.
-pub fn refusal(number: usize, place: usize) {
-    marked(b"REFUSED ", number as u64);
-    marked(b" ", place as u64);
+pub fn refusal(rt: &impl Print, number: usize, place: usize) -> io::Result<()> {
+    marked(rt, b"REFUSED ", number as u64)?;
+    marked(rt, b" ", place as u64)
 }
 
 // Bytes in hexadecimal.
-pub fn hex(bytes: &[u8]) {
-    let mut i: usize = 0;
-    while i < bytes.len() {
-        io::print_hex(STDOUT_FILENO, bytes[i] as u64, 2);
-        i += 1;
+pub fn hex(rt: &impl Print, bytes: &[u8]) -> io::Result<()> {
+    for byte in bytes {
+        print!(rt; "{byte:02x}")?;
     }
+    Ok(())
 }

@@ -1,6 +1,8 @@
 // For tests: independence, worth and gains as documents 01 and 02 define them, computed in other ways than the crate `kinds` uses. A worth is
 // found by trying each part of a set; a closed loop by trimming: where a joint has one gauge only, that gauge is in no loop; mounts by Hall's
 // condition.
+#![tactic(auto)]
+
 ghost use Rattle.std.specs.Prelude.{◌≤◌};
 
 use team::Team;

@@ -5,6 +5,7 @@ ghost use Rattle.std.specs.Prelude.{◌≤◌, ◌<◌};
 
 use holding::Holding;
 use lines::print;
+use std::io;
 
 // How many instruments there are: m, and 64 where it is greater.
 fn instruments(m: usize) -> usize
@@ -63,9 +64,9 @@ fn shortfall(h: Holding) -> usize {
 }
 
 // Prints a size before a space.
-fn one(size: usize) {
-    print::marked(b"", size as u64);
-    print::text(b" ");
+fn one(rt: &impl Print, size: usize) -> io::Result<()> {
+    print::marked(rt, b"", size as u64)?;
+    print::text(rt, b" ")
 }
 
 // Whether the size carried at t is printed, with n teams.
@@ -77,32 +78,32 @@ fn shown(n: usize, t: usize, size: u8) -> bool {
 }
 
 // Prints what the holding carries.
-fn carried(h: Holding) {
+fn carried(rt: &impl Print, h: Holding) -> io::Result<()> {
     for t in 0..12usize {
         let size = h.sizes[t];
         if shown(h.n, t, size) {
-            one(size as usize);
+            one(rt, size as usize)?;
         }
     }
-    print::marked(b"short ", h.shortfall as u64);
+    print::marked(rt, b"short ", h.shortfall as u64)
 }
 
 // Prints what the count comes to.
-fn counted(h: Holding) {
+fn counted(rt: &impl Print, h: Holding) -> io::Result<()> {
     let owner = h.owner;
     for t in 0..12usize {
         if t < h.n {
-            one(size(owner, h.m, t));
+            one(rt, size(owner, h.m, t))?;
         }
     }
-    print::marked(b"short ", shortfall(h) as u64);
+    print::marked(rt, b"short ", shortfall(h) as u64)
 }
 
 // Prints both.
-pub fn show(h: Holding) {
-    print::text(b" [");
-    carried(h);
-    print::text(b" | ");
-    counted(h);
-    print::text(b"]");
+pub fn show(rt: &impl Print, h: Holding) -> io::Result<()> {
+    print::text(rt, b" [")?;
+    carried(rt, h)?;
+    print::text(rt, b" | ")?;
+    counted(rt, h)?;
+    print::text(rt, b"]")
 }

@@ -1,5 +1,9 @@
 // Cases of a holding, each a line of text: the holding that it starts with, and then steps, each after a semicolon. Every step is answered by what
 // it hands back and by the sizes and the shortfall that this carries, beside a count made here.
+#![tactic(auto)]
+
+use std::io;
+
 mod counts;
 mod moves;
 mod numbers;
@@ -9,8 +13,8 @@ mod starting;
 mod steps;
 
 // Answers a case: what each step hands back.
-pub fn answer(line: &[u8]) {
+pub fn answer(rt: &impl Print, line: &[u8]) -> io::Result<()> {
     let end = lines::find(line, 0, b';');
     let start = starting::read(&line[0..end]);
-    steps::answer(start, lines::after(line, b';'));
+    steps::answer(rt, start, lines::after(line, b';'))
 }

@@ -1,6 +1,7 @@
 // Instruments in a row that go with one number: `g=t`, or `first-last=t`. In a holding t is the owner, in a chain the team that gets them.
 use crate::numbers;
 use lines::print;
+use std::io;
 
 // The first and the last instrument, and the number that all of them go with.
 #[derive(Clone, Copy)]
@@ -32,10 +33,10 @@ pub fn has(run: Run, g: usize) -> bool {
 }
 
 // Prints a run after a space.
-pub fn show(run: Run) {
-    print::marked(b" ", run.first as u64);
+pub fn show(rt: &impl Print, run: Run) -> io::Result<()> {
+    print::marked(rt, b" ", run.first as u64)?;
     if run.first < run.last {
-        print::marked(b"-", run.last as u64);
+        print::marked(rt, b"-", run.last as u64)?;
     }
-    print::marked(b"=", run.number as u64);
+    print::marked(rt, b"=", run.number as u64)
 }

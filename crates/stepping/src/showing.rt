@@ -7,6 +7,7 @@ use crate::runs::Run;
 use crate::{counts, runs};
 use holding::Holding;
 use lines::print;
+use std::io;
 
 // Whether two lists of owners are the same.
 fn same_owners(a: [u8; 64], b: [u8; 64]) -> bool {
@@ -75,25 +76,30 @@ fn last(owner: [u8; 64], g: usize) -> bool
 }
 
 // Prints a run, and nothing where it is of 255.
-fn run(first: usize, last: usize, number: u8) {
+fn run(rt: &impl Print, first: usize, last: usize, number: u8) -> io::Result<()> {
     if number != 255 {
-        runs::show(Run {
-            first,
-            last,
-            number,
-        });
+        runs::show(
+            rt,
+            Run {
+                first,
+                last,
+                number,
+            },
+        )?;
     }
+    Ok(())
 }
 
 // Prints all 64 owners, whatever m is.
-fn owners(owner: [u8; 64]) {
+fn owners(rt: &impl Print, owner: [u8; 64]) -> io::Result<()> {
     let mut first: usize = 0;
     for g in 0..64usize {
         if last(owner, g) {
-            run(first, g, owner[g]);
+            run(rt, first, g, owner[g])?;
             first = g + 1;
         }
     }
+    Ok(())
 }
 
 // How many shares there are up to the last that is not 0.
@@ -110,32 +116,33 @@ fn written(shares: [u8; 12]) -> usize
 }
 
 // Prints the shares, whatever n is.
-fn listed(shares: [u8; 12]) {
+fn listed(rt: &impl Print, shares: [u8; 12]) -> io::Result<()> {
     let end = written(shares);
     for t in 0..end {
         if t == 0 {
-            print::text(b" /");
+            print::text(rt, b" /")?;
         }
-        print::marked(b" ", shares[t] as u64);
+        print::marked(rt, b" ", shares[t] as u64)?;
     }
+    Ok(())
 }
 
 // Prints a holding.
-fn holding(h: Holding) {
-    print::marked(b"", h.m as u64);
-    print::marked(b" ", h.n as u64);
+fn holding(rt: &impl Print, h: Holding) -> io::Result<()> {
+    print::marked(rt, b"", h.m as u64)?;
+    print::marked(rt, b" ", h.n as u64)?;
     let owner = h.owner;
-    owners(owner);
+    owners(rt, owner)?;
     let shares = h.shares;
-    listed(shares);
+    listed(rt, shares)
 }
 
 // Prints the answer, by the holdings before and after the step.
-pub fn answer(before: Holding, after: Holding) {
+pub fn answer(rt: &impl Print, before: Holding, after: Holding) -> io::Result<()> {
     if same(before, after) {
-        print::text(b"SAME");
+        print::text(rt, b"SAME")?;
     } else {
-        holding(after);
+        holding(rt, after)?;
     }
-    counts::show(after);
+    counts::show(rt, after)
 }

@@ -1,48 +1,50 @@
 // The steps of a case: `give G T`, `return G`, and `chain COUNT RUNS`, each with the holding that the one before it handed back.
+ghost use Rattle.std.specs.Prelude.{IfOk};
 ghost use Rattle.holding.specs.Count.{Right};
 
 use crate::{moves, numbers, showing};
 use holding::Holding;
 use lines::print;
+use std::io;
 
 // What a step hands back.
-fn carried_out(h: Holding, step: &[u8]) -> Holding
+fn carried_out(rt: &impl Print, h: Holding, step: &[u8]) -> io::Result<Holding>
     requires { Right h }
-    ensures { Right result }
+    ensures { IfOk result (λ h. Right h) }
 {
     let verb = lines::word(step);
     let operands = lines::rest(step);
     if lines::same(verb, b"give") {
-        return h.give(
+        return Ok(h.give(
             numbers::read(operands),
             numbers::read(lines::rest(operands)),
-        );
+        ));
     }
     if lines::same(verb, b"return") {
-        return h.give_back(numbers::read(operands));
+        return Ok(h.give_back(numbers::read(operands)));
     }
     if lines::same(verb, b"chain") {
-        return h.chain(moves::read(operands));
+        return Ok(h.chain(moves::read(operands)));
     }
-    print::text(b"UNKNOWN ");
-    print::text(verb);
-    print::text(b" ");
-    h
+    print::text(rt, b"UNKNOWN ")?;
+    print::text(rt, verb)?;
+    print::text(rt, b" ")?;
+    Ok(h)
 }
 
 // Carries out a step that spaces may stand before, and prints the answer.
-fn perform(h: Holding, text: &[u8]) -> Holding
+fn perform(rt: &impl Print, h: Holding, text: &[u8]) -> io::Result<Holding>
     requires { Right h }
-    ensures { Right result }
+    ensures { IfOk result (λ h. Right h) }
 {
     let from = lines::skip(text, 0, b' ');
-    let next = carried_out(h, &text[from..]);
-    showing::answer(h, next);
-    next
+    let next = carried_out(rt, h, &text[from..])?;
+    showing::answer(rt, h, next)?;
+    Ok(next)
 }
 
 // Answers the steps of a text, with semicolons between the answers.
-pub fn answer(start: Holding, text: &[u8])
+pub fn answer(rt: &impl Print, start: Holding, text: &[u8]) -> io::Result<()>
     requires { Right start }
 {
     let mut h = start;
@@ -50,9 +52,10 @@ pub fn answer(start: Holding, text: &[u8])
     while at < text.len() {
         let end = lines::find(text, at, b';');
         if at > 0 {
-            print::text(b"; ");
+            print::text(rt, b"; ")?;
         }
-        h = perform(h, &text[at..end]);
+        h = perform(rt, h, &text[at..end])?;
         at = end + 1;
     }
+    Ok(())
 }

@@ -1,0 +1,22 @@
+// Standard input.
+ghost use Rattle.std.specs.Prelude.{IfOk};
+ghost use Rattle.lines.specs.Counts.{IsPrefixLen};
+
+use std::io;
+use std::io::{Input, Read};
+
+// Reads until buf is full or the input ends, and answers how many bytes it put at the start of buf. A read that fails is answered by its error.
+pub fn read_full(rt: &impl Input, buf: &mut [u8]) -> io::Result<usize>
+    ensures { IfOk result (λ n. IsPrefixLen n buf.new) }
+{
+    let mut reader = rt.reader();
+    let mut done: usize = 0;
+    while done < buf.len() {
+        let n = reader.read(&mut buf[done..])?;
+        if n == 0 {
+            break;
+        }
+        done += n;
+    }
+    Ok(done)
+}
