@@ -1,4 +1,6 @@
 // What a command that breaks no rule changes.
+#![tactic(auto)]
+
 ghost use Rattle.std.specs.Prelude.{◌≡◌, ◌≤◌, length};
 ghost use Rattle.command.specs.declared.Command.TheVariants.{Caps, Class, Days};
 ghost use Rattle.carry.specs.Carry.{start, named_team, row_of, changed_team, changed_state};
@@ -80,6 +82,7 @@ pub fn row_of(n: usize, command: Command) -> usize
 
 // Changes the row that a command works on, where n teams have been opened, this one included. A team that the command opens takes the place of
 // what the row held.
+#[tactic(auto, unfolding(crate::specs::Carry::changed_team))]
 pub fn change(row: &mut [u8], n: usize, command: Command)
     requires { (length row.old ≡ 343) × (n ≤ 12) }
     ensures { row_team row.new ≡ changed_team n (row_team row.old) command }
@@ -125,6 +128,7 @@ fn with_capped(mut s: State, class: u8) -> State
 }
 
 // The rest of the state after a command.
+#[tactic(auto, unfolding(crate::specs::Carry::changed_state))]
 pub fn changed_state(mut s: State, command: Command) -> State
     requires { s.n ≤ 12 }
     ensures { result ≡ changed_state s command }

@@ -9,7 +9,7 @@ use lib.Dec.{eqb, leb}
 use lib.ListN.{length, get_or}
 use borrow.Author.Tests.{leb-true, eqb-false}
 use Rattle.command.specs.declared.Command.{Command}
-use Rattle.command.specs.declared.Command.TheVariants.{Missing, Unknown, Short, Start, Caps, Loops, Mounts, Class, Put, Span, Fit, Shelf, Days, Glue, End}
+use Rattle.command.specs.declared.Command.TheVariants.{Missing, Unknown, Short}
 use Rattle.command.specs.Command.{width_of, command_by, command_at, bytes_of}
 
 -- a command has as many bytes as its first byte says

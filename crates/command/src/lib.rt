@@ -1,4 +1,6 @@
 // One command of a plan file: what stands at an offset, and the reader that hands one out after another.
+#![tactic(auto)]
+
 pub mod decode;
 pub mod reader;
 

@@ -1,4 +1,6 @@
 // Loan days: the days of a team, the shelf days of an instrument, and which instruments are usable on a team's days.
+#![tactic(auto)]
+
 ghost use Rattle.std.specs.Prelude.{◌≡◌, ◌≤◌, leb};
 ghost use Rattle.sets.specs.Bits.{word};
 ghost use Rattle.days.specs.Days.{always, dated, day_of, given, within, usable_on};

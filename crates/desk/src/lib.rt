@@ -1,4 +1,4 @@
-// The desk interface: every operation on byte buffers, answering one number, for programs in other languages.
+// The desk interface: every operation on byte buffers, answering one number. The crate desk_c exports it to programs in other languages.
 ghost use Rattle.std.specs.Prelude.{◌≡◌};
 ghost use Rattle.builder.specs.Build.{build_answer, Answered};
 ghost use Rattle.checker.specs.Check.{check_sheet};
@@ -12,8 +12,7 @@ use checker::Verdict;
 use plan::Answer;
 
 // Worth: what a set is worth to a team, or 65,536 × the refusal's number + its place.
-#[unsafe(no_mangle)]
-pub extern "C" fn pool_worth(plan: &[u8], team: usize, set: u64) -> u64
+pub fn pool_worth(plan: &[u8], team: usize, set: u64) -> u64
     ensures { result ≡ desk_worth (worth_answer plan.now team set) }
 {
     let a = plan::worth(plan, team, set);
@@ -24,8 +23,7 @@ pub extern "C" fn pool_worth(plan: &[u8], team: usize, set: u64) -> u64
 }
 
 // Build: the sheet's length, or 65,536 × the refusal's number + its place.
-#[unsafe(no_mangle)]
-pub extern "C" fn pool_build(plan: &[u8], buffer: &mut [u8]) -> u64
+pub fn pool_build(plan: &[u8], buffer: &mut [u8]) -> u64
     ensures answer { result ≡ desk_built (build_answer plan.now buffer.old) }
     ensures bytes { Answered plan.now buffer.old buffer.new (build_answer plan.now buffer.old) }
 {
@@ -37,8 +35,7 @@ pub extern "C" fn pool_build(plan: &[u8], buffer: &mut [u8]) -> u64
 }
 
 // Check: 0, or 65,536 × the refusal's number + its place.
-#[unsafe(no_mangle)]
-pub extern "C" fn pool_check(plan: &[u8], sheet: &[u8]) -> u64
+pub fn pool_check(plan: &[u8], sheet: &[u8]) -> u64
     ensures { result ≡ desk_verdict (check_sheet plan.now sheet.now) }
 {
     let v = checker::check(plan, sheet);
@@ -49,8 +46,7 @@ pub extern "C" fn pool_check(plan: &[u8], sheet: &[u8]) -> u64
 }
 
 // Page: 65,536 × the length + the offset of a team's page in the sheet, or 0 for the empty page.
-#[unsafe(no_mangle)]
-pub extern "C" fn pool_page(plan: &[u8], sheet: &[u8], team: usize) -> u64
+pub fn pool_page(plan: &[u8], sheet: &[u8], team: usize) -> u64
     ensures { result ≡ desk_page (stretch_of plan.now sheet.now team) }
 {
     let s = checker::page_stretch(plan, sheet, team);
@@ -58,8 +54,7 @@ pub extern "C" fn pool_page(plan: &[u8], sheet: &[u8], team: usize) -> u64
 }
 
 // The weekly listing of a sheet: its length, or 65,536 × the refusal's number + its place.
-#[unsafe(no_mangle)]
-pub extern "C" fn pool_list(plan: &[u8], sheet: &[u8], buffer: &mut [u8]) -> u64
+pub fn pool_list(plan: &[u8], sheet: &[u8], buffer: &mut [u8]) -> u64
     ensures answer { result ≡ desk_built (list_answer plan.now sheet.now buffer.old) }
     ensures bytes { buffer.new ≡ list_bytes plan.now sheet.now buffer.old }
 {

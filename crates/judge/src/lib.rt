@@ -1,5 +1,7 @@
 // Which rule a command breaks first, by the state and the row that the command works on: the open team's, and for GLUE that of the glued
 // instruments. 0: none.
+#![tactic(auto)]
+
 ghost use Rattle.std.specs.Prelude.{◌≡◌, length};
 ghost use Rattle.judge.specs.Fault.{fault, start_rules, team_rules, class_rules, put_rules, span_rules, fit_rules, shelf_rules, days_rules, glue_rules, end_rules, is_end, named};
 ghost use Rattle.days.specs.Days.{day_of};
@@ -153,6 +155,7 @@ fn end_fault(s: State) -> usize
 }
 
 // The number of the first rule that a command breaks, given the row that it works on.
+#[tactic(auto, unfolding(crate::specs::Fault::fault, row::specs::Row::row_team))]
 pub fn fault_of(row: &[u8], at: usize, s: State, command: Command) -> usize
     requires { length row.now ≡ 343 }
     ensures { result ≡ fault at s (row_team row.now) command }

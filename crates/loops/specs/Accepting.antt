@@ -1,7 +1,7 @@
 -- Accepted gauges: they close no loop, and once no gauge of a set joins two groups they are as many as the set is worth.
 use Rattle.std.specs.Prelude.{ℕ, ◌<◌, ◌≡◌, not, List, ◌↔◌, T}
 use Rattle.std.proofs.Common.{ap}
-use Rattle.std.proofs.Math.Logic.{Iff·symm, Iff·trans}
+use Rattle.std.proofs.Math.Logic.Iff
 use Rattle.std.proofs.Math.Dec.{not_T}
 use Rattle.matroid.specs.Set.{Set, Within, with, size}
 use Rattle.matroid.specs.Matroid.{worth}
@@ -42,7 +42,7 @@ module _ (N : Net) (m : ℕ) where
 
   -- and one more closes none exactly when its joints are in different groups
   pub accepted_joins : (row : List ℕ) → Accepted N m row → (h : ℕ) → h < m → T (not (on row h)) → T (apart (carried N row) (end_a h) (end_b h)) ↔ LoopFree N m (with (on row) h)
-  accepted_joins row accepted h l out = Iff·trans (apart_bridges row accepted h) (Iff·symm (loop_free_with N m (on row) h (accepted_free row accepted) l out))
+  accepted_joins row accepted h l out = Iff.trans (apart_bridges row accepted h) (Iff.symm (loop_free_with N m (on row) h (accepted_free row accepted) l out))
 
   -- Whichever gauges of a set were accepted, and in whichever order: once none of it joins two groups, they are as many as it is worth.
   pub accepted_worth : (row : List ℕ) → Accepted N m row → (S : Set) → Within m (on row) S

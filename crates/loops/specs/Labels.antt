@@ -4,7 +4,9 @@ use Rattle.std.specs.Prelude.{◌≡◌, refl, ◌↔◌, ◌≢◌, eqb}
 use Rattle.std.proofs.Common.{sym, ◌∙◌, subst, eqb→eq}
 use Rattle.std.proofs.Math.Path.{ap, subst⁻¹}
 use mathlib.Core.List.{List, [], ◌∷◌}
-use Rattle.std.proofs.Math.Logic.{inl, inr, Iff·rfl, Iff·symm, Iff·trans, Equivalence, ite, if_pos, if_neg, Dec·not, Dec·not-not}
+use Rattle.std.proofs.Math.Logic.{inl, inr, Equivalence, ite, if_pos, if_neg}
+use Rattle.std.proofs.Math.Logic.Dec
+use Rattle.std.proofs.Math.Logic.Iff
 use native.Mathlib.Omega.{arith}
 use Rattle.std.proofs.Math.Decide.{ℕ_discrete}
 use Rattle.std.proofs.Math.Dec.{T}
@@ -50,12 +52,12 @@ module _ (N : Net) (A : Set) where
   together? n x y = ℕ_discrete (labels n x) (labels n y)
 
   unfoldable pub bridges? : (n g : ℕ) → Dec (Bridges n g)
-  unfolding spans together? Dec·not
-  bridges? n g = dec_both (T? (spans N g)) (Dec·not (together? n (end_a g) (end_b g)))
+  unfolding spans together? Dec.not
+  bridges? n g = dec_both (T? (spans N g)) (Dec.not (together? n (end_a g) (end_b g)))
 
   -- a span that is no bridge lies in one group
   pub no_bridge : (n g : ℕ) → T (spans N g) → (Bridges n g → ⊥) → Together n (end_a g) (end_b g)
-  no_bridge n g s no-b = (Dec·not-not (together? n (end_a g) (end_b g))).0 (λ differ. no-b (s, differ))
+  no_bridge n g s no-b = (Dec.not-not (together? n (end_a g) (end_b g))).0 (λ differ. no-b (s, differ))
 
   -- an instrument that is taken in makes the next groups
   labels_take : (n : ℕ) → Taken n → labels (suc n) ≡ joined (labels n) (end_a n) (end_b n)
@@ -129,7 +131,7 @@ module _ (N : Net) (A : Set) where
   -- a joint's label is a joint
   labels_lt : (n x : ℕ) → x < joints → labels n x < joints
   labels_lt n x = (to_label (λ x y. (x < joints) ↔ (y < joints))
-      (record { refl = λ x. Iff·rfl; symm = λ x y. Iff·symm; trans = λ x y z. Iff·trans })
+      (record { refl = λ x. Iff.rfl; symm = λ x y. Iff.symm; trans = λ x y z. Iff.trans })
       n (λ g l (a, s). (λ _. ((spans_iff N g).0 s).1, λ _. ((spans_iff N g).0 s).0)) x).0
 
   -- the joints that are their own labels, one in each group

@@ -1,4 +1,6 @@
 // LOOPS: no closed loop. The groups of connected joints are carried along as each gauge is accepted.
+#![tactic(auto)]
+
 ghost use Rattle.std.specs.Prelude.{◌≡◌, ◌≤◌};
 ghost use Rattle.matroid.specs.Matroid.{worth};
 ghost use Rattle.sets.specs.Bits.{bit};

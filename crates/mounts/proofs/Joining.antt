@@ -1,5 +1,5 @@
 -- What may join an independent set of MOUNTS, and what a set is worth.
-use Prim.Native.Nat.{ℕ, suc, ◌+◌, ◌-◌, ◌≤◌, ◌<◌}
+use Prim.Native.Nat.{ℕ, suc, ◌+◌, ◌≤◌, ◌<◌}
 use mathlib.Core.Path.{◌≡◌, subst, subst⁻¹}
 use mathlib.Core.Bool.{not}
 use mathlib.Core.Logic.{inl, inr}

@@ -7,7 +7,7 @@ use mathlib.Core.List.{List}
 use native.Mathlib.Omega.{arith}
 use native.Mathlib.Decide.{dec_lt, ℕ_discrete}
 use lib.Dec.{T, eqb, eqb_refl, ltb→lt, lt→ltb, T_not, not_T}
-use lib.ListN.{length, get_or, set, replicate, length-set, length-replicate}
+use lib.ListN.{length, get_or, replicate, length-set, length-replicate}
 use lib.Seq.{get_or-set_same, get_or-set_other}
 use Rattle.matroid.specs.Taut.{both, and_left, and_right}
 use Rattle.matroid.specs.Set.{Set, ◌∩◌, ◌∖◌, under, with, without, size}

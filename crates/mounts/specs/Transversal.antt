@@ -1,7 +1,8 @@
 -- The sets of which every member can have a mount of its own are a matroid, the transversal matroid.
 use Rattle.std.specs.Prelude.{ℕ, zero, suc, ◌+◌, ◌<◌, ◌≡◌, ◌&&◌, not, ◌⊎◌, ◌↔◌, ◌≢◌, List}
 use Rattle.std.proofs.Common.{sym, ◌∙◌, subst}
-use Rattle.std.proofs.Math.Logic.{inl, inr, Dec·not, Dec·not-not}
+use Rattle.std.proofs.Math.Logic.{inl, inr}
+use Rattle.std.proofs.Math.Logic.Dec
 use native.Mathlib.Omega.{arith}
 use Rattle.std.proofs.Math.Decide.{ℕ_discrete}
 use Rattle.std.proofs.Math.Dec.{T, eqb, eqb→eq, eqb_refl, not_T}
@@ -120,10 +121,10 @@ module _ (fits : ℕ → Set) (m : ℕ) where
   module _ (A B : Set) (MB : Mounted fits m B) where
     -- a larger B has a member whose mount no member of A has
     unused : (MA : Mounted fits m A) → size m A < size m B → (g : ℕ) × (g < m) × (T (B g) × (Used MA (MB.mount g) → ⊥))
-    unused MA more = elim (some? (λ g. T (B g) × (Used MA (MB.mount g) → ⊥)) (λ g. dec_both (T? (B g)) (Dec·not (used? MA (MB.mount g)))) m) [
+    unused MA more = elim (some? (λ g. T (B g) × (Used MA (MB.mount g) → ⊥)) (λ g. dec_both (T? (B g)) (Dec.not (used? MA (MB.mount g)))) m) [
       | yes s ↦ s
       | no never ↦
-          let used : (g : ℕ) → g < m → T (B g) → Used MA (MB.mount g) = λ g l b. (Dec·not-not (used? MA (MB.mount g))).0 (λ out. never (g, l, (b, out))) in
+          let used : (g : ℕ) → g < m → T (B g) → Used MA (MB.mount g) = λ g l b. (Dec.not-not (used? MA (MB.mount g))).0 (λ out. never (g, l, (b, out))) in
           let no-larger = size_inject m m B A (λ g h. MA.mount h ≡ MB.mount g) used (λ g g' h l l' b b' e e'. MB.differ g g' l l' b b' (sym e ∙ e')) in
           absurd (omega arith)
     ]

@@ -87,15 +87,13 @@ fn valuation_of(r: Reading, team: u64) -> Valuation {
 }
 
 // The worths of that many sets to a team, added up. A refused plan's teams have no kind.
-#[unsafe(no_mangle)]
-pub extern "C" fn probe_worth(file: &[u8], team: u64, rounds: u64) -> u64 {
+pub fn probe_worth(file: &[u8], team: u64, rounds: u64) -> u64 {
     let r = plan::read(file);
     worths(valuation_of(r, team), count_of(r), rounds)
 }
 
 // The gains of that many independent sets of a team, added up.
-#[unsafe(no_mangle)]
-pub extern "C" fn probe_gains(file: &[u8], team: u64, rounds: u64) -> u64 {
+pub fn probe_gains(file: &[u8], team: u64, rounds: u64) -> u64 {
     let r = plan::read(file);
     gains(valuation_of(r, team), count_of(r), rounds)
 }

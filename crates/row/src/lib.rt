@@ -2,6 +2,8 @@
 // five tables over the instruments: the byte of the command that names one, and the four operands of that command after the instrument; last
 // the byte of the command that says its days and the four bytes of these. The pool has such a row too, in which SHELFs name the instruments, and so have
 // the glued instruments, where the byte is the number of the team, counted from 1.
+#![tactic(auto)]
+
 ghost use Rattle.std.specs.Prelude.{◌≡◌, ◌+◌, ◌≤◌, ◌<◌, length};
 ghost use Rattle.team.specs.Team.{opened_team};
 ghost use Rattle.row.specs.Row.{part, row_team, Filled};

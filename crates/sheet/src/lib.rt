@@ -1,4 +1,6 @@
 // The sheet as bytes: its length, its fields and its form.
+#![tactic(auto)]
+
 ghost use Rattle.std.specs.Prelude.{◌≡◌, ◌+◌, ◌*◌, ◌≤◌, length};
 ghost use Rattle.sets.specs.Bundles.{Bundles};
 ghost use Rattle.sheet.specs.Layout.{length_of, give_start, bound_start, share_start};
