@@ -6,7 +6,7 @@ use mathlib.Core.Logic.{◌↔◌, inl, inr}
 use native.Mathlib.Omega.{arith}
 use lib.Dec.{T}
 use Rattle.matroid.specs.Taut.{both, and_left, and_right, or_cases, follows₂}
-use Rattle.matroid.specs.Set.{Set, none, ◌∪◌, ◌∩◌, ◌∖◌, complement, size, Within}
+use Rattle.matroid.specs.Set.{Set, ◌∪◌, ◌∩◌, ◌∖◌, complement, size, Within}
 use Rattle.matroid.specs.SetLaws.{size_none, union_left, union_least}
 use Rattle.matroid.specs.Matroid.{Matroid, worth}
 use Rattle.matroid.specs.Build.{restrict}

@@ -1,4 +1,6 @@
 // What a set of instruments is worth by a valuation, and what may join it. Nothing above this crate knows a kind of team.
+#![tactic(auto)]
+
 ghost use Rattle.std.specs.Prelude.{◌≡◌, true, false, ◌≤◌};
 ghost use Rattle.matroid.specs.Matroid.{worth};
 ghost use Rattle.sets.specs.Bits.{bit};
