@@ -2,21 +2,22 @@
 use crate::{listing, space};
 use builder::Built;
 use lines::print;
+use std::io;
 
 // Shows the length L of a sheet, and the sheet.
-fn show(plan: &[u8], sheet: &[u8], long: usize) {
-    print::marked(b"L ", long as u64);
-    print::text(b"; ");
-    listing::show(plan, lines::front(sheet, long));
+fn show(rt: &impl Print, plan: &[u8], sheet: &[u8], long: usize) -> io::Result<()> {
+    print::marked(rt, b"L ", long as u64)?;
+    print::text(rt, b"; ")?;
+    listing::show(rt, plan, lines::front(sheet, long))
 }
 
 // Answers the verb.
-pub fn answer(hex: &[u8]) {
+pub fn answer(rt: &impl Print, hex: &[u8]) -> io::Result<()> {
     let mut plan = space::of_plan();
     let k = lines::decode(hex, &mut plan);
     let mut sheet = [0u8; 2642];
     match builder::build(&plan[..k], &mut sheet) {
-        Built::Refused(number, place) => print::refusal(number, place),
-        Built::Wrote(long) => show(&plan[..k], &sheet, long),
+        Built::Refused(number, place) => print::refusal(rt, number, place),
+        Built::Wrote(long) => show(rt, &plan[..k], &sheet, long),
     }
 }

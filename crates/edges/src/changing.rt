@@ -3,6 +3,7 @@
 use crate::{listing, space};
 use builder::Built;
 use lines::print;
+use std::io;
 
 // Puts a value at an offset, where there is room.
 fn put(sheet: &mut [u8; 2642], at: usize, value: u8) {
@@ -12,12 +13,12 @@ fn put(sheet: &mut [u8; 2642], at: usize, value: u8) {
 }
 
 // Shows what Check answers to the first bytes of a space.
-fn judge(plan: &[u8], space: &[u8; 2642], long: usize) {
-    listing::judge(plan, lines::front(space, long));
+fn judge(rt: &impl Print, plan: &[u8], space: &[u8; 2642], long: usize) -> io::Result<()> {
+    listing::judge(rt, plan, lines::front(space, long))
 }
 
 // Answers the verb by Check's answer, or by Build's refusal.
-pub fn answer(operands: &[u8]) {
+pub fn answer(rt: &impl Print, operands: &[u8]) -> io::Result<()> {
     let at = lines::number(operands);
     let after = lines::rest(operands);
     let mut value = [0u8; 1];
@@ -26,10 +27,10 @@ pub fn answer(operands: &[u8]) {
     let k = lines::decode(lines::rest(after), &mut plan);
     let mut sheet = [0u8; 2642];
     match builder::build(&plan[..k], &mut sheet) {
-        Built::Refused(number, place) => print::refusal(number, place),
+        Built::Refused(number, place) => print::refusal(rt, number, place),
         Built::Wrote(long) => {
             put(&mut sheet, at, value[0]);
-            judge(&plan[..k], &sheet, long);
+            judge(rt, &plan[..k], &sheet, long)
         }
     }
 }

@@ -2,6 +2,7 @@
 // day 0 to day 65,535, and of a team with no DAYS, nothing is shown.
 use days::Days;
 use lines::print;
+use std::io;
 
 // Whether days are those from one day to another.
 fn are(d: Days, from: u16, to: u16) -> bool {
@@ -9,20 +10,21 @@ fn are(d: Days, from: u16, to: u16) -> bool {
 }
 
 // `from-to`, after a mark.
-fn show(mark: &[u8], d: Days) {
-    print::marked(mark, d.from as u64);
-    print::marked(b"-", d.to as u64);
+fn show(rt: &impl Print, mark: &[u8], d: Days) -> io::Result<()> {
+    print::marked(rt, mark, d.from as u64)?;
+    print::marked(rt, b"-", d.to as u64)
 }
 
 // The shelf days of each instrument.
-pub fn shelf(table: [Days; 64]) {
+pub fn shelf(rt: &impl Print, table: [Days; 64]) -> io::Result<()> {
     for i in 0..64usize {
         let d = table[i];
         if !are(d, 0, 65535) {
-            print::marked(b" SHELF ", i as u64);
-            show(b":", d);
+            print::marked(rt, b" SHELF ", i as u64)?;
+            show(rt, b":", d)?;
         }
     }
+    Ok(())
 }
 
 // Whether two bytes are those of a day, the low one first.
@@ -40,13 +42,14 @@ fn agree(bytes: [u8; 5], d: Days) -> bool {
 }
 
 // The days of a team. A `!` marks days that are not those that its DAYS names.
-pub fn team(bytes: [u8; 5], d: Days) {
+pub fn team(rt: &impl Print, bytes: [u8; 5], d: Days) -> io::Result<()> {
     if bytes[0] != 255 {
-        show(b" DAYS ", d);
+        show(rt, b" DAYS ", d)?;
     }
     if !agree(bytes, d) {
-        print::text(b"!");
+        print::text(rt, b"!")?;
     }
+    Ok(())
 }
 
 // Whether each instrument's shelf days are 0 to 0.
@@ -72,8 +75,9 @@ fn no_days(table: [Days; 12]) -> bool {
 }
 
 // A `!` where days of a refused plan are not 0.
-pub fn refused(shelf: [Days; 64], days: [Days; 12]) {
+pub fn refused(rt: &impl Print, shelf: [Days; 64], days: [Days; 12]) -> io::Result<()> {
     if !(no_shelf(shelf) && no_days(days)) {
-        print::text(b"!");
+        print::text(rt, b"!")?;
     }
+    Ok(())
 }

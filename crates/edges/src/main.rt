@@ -1,7 +1,7 @@
 // Answers each line of standard input by one line. An empty line and one that starts with `#` come back as they are; any other
 // line is a verb and its operands.
-use libc::STDIN_FILENO;
-use lines::print;
+use lines::{input, print};
+use std::io;
 
 mod building;
 mod changing;
@@ -16,60 +16,55 @@ mod space;
 mod worth;
 
 // Answers a line that is a verb and its operands: each verb has a branch here and a module.
-fn perform(line: &[u8]) {
+fn perform(rt: &impl Print, line: &[u8]) -> io::Result<()> {
     let verb = lines::word(line);
     let operands = lines::rest(line);
     if lines::same(verb, b"read") {
-        reading::answer(operands);
-        return;
+        return reading::answer(rt, operands);
     }
     if lines::same(verb, b"worth") {
-        worth::answer(operands);
-        return;
+        return worth::answer(rt, operands);
     }
     if lines::same(verb, b"build") {
-        building::answer(operands);
-        return;
+        return building::answer(rt, operands);
     }
     if lines::same(verb, b"give") {
-        giving::answer(operands);
-        return;
+        return giving::answer(rt, operands);
     }
     if lines::same(verb, b"byte") {
-        changing::answer(operands);
-        return;
+        return changing::answer(rt, operands);
     }
     if lines::same(verb, b"room") {
-        room::answer(operands);
-        return;
+        return room::answer(rt, operands);
     }
-    print::text(b"UNKNOWN ");
-    print::text(verb);
+    print::text(rt, b"UNKNOWN ")?;
+    print::text(rt, verb)
 }
 
 // Answers a line.
-fn answer(line: &[u8]) {
+fn answer(rt: &impl Print, line: &[u8]) -> io::Result<()> {
     if lines::is_note(line) {
-        print::text(line);
+        print::text(rt, line)?;
     } else {
-        perform(line);
+        perform(rt, line)?;
     }
-    print::text(b"\n");
+    print::text(rt, b"\n")
 }
 
 // Answers each line of a text.
-fn run(text: &[u8]) {
+fn run(rt: &impl Print, text: &[u8]) -> io::Result<()> {
     let mut at: usize = 0;
     while at < text.len() {
         let end = lines::line_end(text, at);
-        answer(&text[at..end]);
+        answer(rt, &text[at..end])?;
         at = end + 1;
     }
+    Ok(())
 }
 
 // Of standard input the first 262,144 bytes are read.
-fn main() {
+fn main(rt: HostRuntime) -> io::Result<()> {
     let mut space = space::of_input();
-    let n = io::read_full(STDIN_FILENO, &mut space);
-    run(&space[..n]);
+    let n = input::read_full(&rt, &mut space)?;
+    run(&rt, &space[..n])
 }

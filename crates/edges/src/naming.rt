@@ -1,6 +1,7 @@
 // The command that names an instrument of a team: `instrument:class` for a PUT, `instrument:joint-joint` for a SPAN, and for a FIT
 // `instrument:` and its four bytes of mounts in hexadecimal, as they stand in the file.
 use lines::print;
+use std::io;
 
 // How many operands a naming command has after the instrument.
 fn count(command: u8) -> usize {
@@ -23,31 +24,37 @@ fn filler(operands: [u8; 4], from: usize) -> bool {
 }
 
 // The operands of a command, and nothing where it is the filler.
-fn show(command: u8, operands: [u8; 4]) {
+fn show(rt: &impl Print, command: u8, operands: [u8; 4]) -> io::Result<()> {
     match command {
-        5 => print::marked(b":", operands[0] as u64),
+        5 => print::marked(rt, b":", operands[0] as u64),
         6 => {
-            print::marked(b":", operands[0] as u64);
-            print::marked(b"-", operands[1] as u64);
+            print::marked(rt, b":", operands[0] as u64)?;
+            print::marked(rt, b"-", operands[1] as u64)
         }
         9 => {
-            print::text(b":");
-            print::hex(&operands);
+            print::text(rt, b":")?;
+            print::hex(rt, &operands)
         }
-        255 => {}
-        _ => print::marked(b"?", command as u64),
+        255 => Ok(()),
+        _ => print::marked(rt, b"?", command as u64),
     }
 }
 
 // What names an instrument, and nothing where nothing does. A `!` marks an operand that the command does not have and that is not the filler.
-pub fn instrument(number: usize, command: u8, operands: [u8; 4]) {
+pub fn instrument(
+    rt: &impl Print,
+    number: usize,
+    command: u8,
+    operands: [u8; 4],
+) -> io::Result<()> {
     let rest = filler(operands, count(command));
     if command == 255 && rest {
-        return;
+        return Ok(());
     }
-    print::marked(b" ", number as u64);
-    show(command, operands);
+    print::marked(rt, b" ", number as u64)?;
+    show(rt, command, operands)?;
     if !rest {
-        print::text(b"!");
+        print::text(rt, b"!")?;
     }
+    Ok(())
 }

@@ -5,15 +5,16 @@ use crate::{glue, loan, naming, space};
 use days::Days;
 use lines::print;
 use plan::Reading;
+use std::io;
 use team::Team;
 
 // `class=cap`, or `first-last=cap` for classes of one cap.
-fn cap(first: usize, last: usize, cap: u8) {
-    print::marked(b" ", first as u64);
+fn cap(rt: &impl Print, first: usize, last: usize, cap: u8) -> io::Result<()> {
+    print::marked(rt, b" ", first as u64)?;
     if first < last {
-        print::marked(b"-", last as u64);
+        print::marked(rt, b"-", last as u64)?;
     }
-    print::marked(b"=", cap as u64);
+    print::marked(rt, b"=", cap as u64)
 }
 
 // Whether the next class has another cap, or there is none.
@@ -27,18 +28,19 @@ fn last(table: [u8; 16], class: usize) -> bool
 }
 
 // The caps, by class.
-fn caps(table: [u8; 16]) {
+fn caps(rt: &impl Print, table: [u8; 16]) -> io::Result<()> {
     let mut first: usize = 0;
     for k in 0..16usize {
         if last(table, k) {
-            cap(first, k, table[k]);
+            cap(rt, first, k, table[k])?;
             first = k + 1;
         }
     }
+    Ok(())
 }
 
 // What names each instrument.
-fn instruments(t: Team) {
+fn instruments(rt: &impl Print, t: Team) -> io::Result<()> {
     let named = t.named;
     let first = t.first;
     let second = t.second;
@@ -46,62 +48,63 @@ fn instruments(t: Team) {
     let fourth = t.fourth;
     for i in 0..64usize {
         let operands = [first[i], second[i], third[i], fourth[i]];
-        naming::instrument(i, named[i], operands);
+        naming::instrument(rt, i, named[i], operands)?;
     }
+    Ok(())
 }
 
 // A team's kind, by the byte that opens the team.
-fn kind(byte: u8) {
+fn kind(rt: &impl Print, byte: u8) -> io::Result<()> {
     match byte {
-        2 => print::text(b"; CAPS"),
-        3 => print::text(b"; LOOPS"),
-        8 => print::text(b"; MOUNTS"),
-        _ => print::marked(b"; KIND ", byte as u64),
+        2 => print::text(rt, b"; CAPS"),
+        3 => print::text(rt, b"; LOOPS"),
+        8 => print::text(rt, b"; MOUNTS"),
+        _ => print::marked(rt, b"; KIND ", byte as u64),
     }
 }
 
 // A team: its kind and channels, all that its tables hold, whichever kind it is, and its days.
-fn team(t: Team, d: Days) {
-    kind(t.kind);
-    print::marked(b" ", t.channels as u64);
+fn team(rt: &impl Print, t: Team, d: Days) -> io::Result<()> {
+    kind(rt, t.kind)?;
+    print::marked(rt, b" ", t.channels as u64)?;
     let cap = t.cap;
-    caps(cap);
-    instruments(t);
+    caps(rt, cap)?;
+    instruments(rt, t)?;
     let bytes = t.days;
-    loan::team(bytes, d);
+    loan::team(rt, bytes, d)
 }
 
 // The first n teams, and what stands in the place after them where there is one.
-fn teams(n: usize, table: [Team; 12], days: [Days; 12]) {
+fn teams(rt: &impl Print, n: usize, table: [Team; 12], days: [Days; 12]) -> io::Result<()> {
     for k in 0..12usize {
         if k <= n {
-            team(table[k], days[k]);
+            team(rt, table[k], days[k])?;
         }
     }
+    Ok(())
 }
 
 // `REFUSED number place`, or `m n`, the shelf days, the glued instruments, and then each team, and the place after the last, after a semicolon.
-fn show(r: Reading) {
+fn show(rt: &impl Print, r: Reading) -> io::Result<()> {
     let shelf = r.shelf;
     let days = r.days;
     let glued = r.glue;
     if r.refusal != 0 {
-        print::refusal(r.refusal, r.place);
-        loan::refused(shelf, days);
-        glue::refused(glued);
-        return;
+        print::refusal(rt, r.refusal, r.place)?;
+        loan::refused(rt, shelf, days)?;
+        return glue::refused(rt, glued);
     }
-    print::marked(b"", r.m as u64);
-    print::marked(b" ", r.n as u64);
-    loan::shelf(shelf);
-    glue::show(glued);
+    print::marked(rt, b"", r.m as u64)?;
+    print::marked(rt, b" ", r.n as u64)?;
+    loan::shelf(rt, shelf)?;
+    glue::show(rt, glued)?;
     let table = r.teams;
-    teams(r.n, table, days);
+    teams(rt, r.n, table, days)
 }
 
 // Answers the verb.
-pub fn answer(hex: &[u8]) {
+pub fn answer(rt: &impl Print, hex: &[u8]) -> io::Result<()> {
     let mut space = space::of_plan();
     let k = lines::decode(hex, &mut space);
-    show(plan::read(&space[..k]));
+    show(rt, plan::read(&space[..k]))
 }

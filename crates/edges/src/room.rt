@@ -3,6 +3,7 @@
 use crate::space;
 use builder::Built;
 use lines::print;
+use std::io;
 
 // What stands in each byte before Build.
 const FILLER: u8 = 0xaa;
@@ -19,10 +20,10 @@ fn unchanged_from(space: &[u8; 4096]) -> usize {
 }
 
 // What Build answers: the length L of the sheet, or a refusal.
-fn show(b: Built) {
+fn show(rt: &impl Print, b: Built) -> io::Result<()> {
     match b {
-        Built::Refused(number, place) => print::refusal(number, place),
-        Built::Wrote(long) => print::marked(b"L ", long as u64),
+        Built::Refused(number, place) => print::refusal(rt, number, place),
+        Built::Wrote(long) => print::marked(rt, b"L ", long as u64),
     }
 }
 
@@ -35,11 +36,11 @@ fn build(plan: &[u8], space: &mut [u8], size: usize) -> Built {
 }
 
 // Answers the verb.
-pub fn answer(operands: &[u8]) {
+pub fn answer(rt: &impl Print, operands: &[u8]) -> io::Result<()> {
     let size = lines::number(operands);
     let mut plan = space::of_plan();
     let k = lines::decode(lines::rest(operands), &mut plan);
     let mut space = [FILLER; 4096];
-    show(build(&plan[..k], &mut space, size));
-    print::marked(b"; UNCHANGED FROM ", unchanged_from(&space) as u64);
+    show(rt, build(&plan[..k], &mut space, size))?;
+    print::marked(rt, b"; UNCHANGED FROM ", unchanged_from(&space) as u64)
 }

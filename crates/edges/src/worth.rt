@@ -2,6 +2,7 @@
 use crate::space;
 use lines::print;
 use plan::Answer;
+use std::io;
 
 // The set that eight bytes stand for.
 fn set_of(bytes: &[u8; 8]) -> u64 {
@@ -9,7 +10,7 @@ fn set_of(bytes: &[u8; 8]) -> u64 {
 }
 
 // Answers the verb by `WORTH` and a number, or by a refusal.
-pub fn answer(operands: &[u8]) {
+pub fn answer(rt: &impl Print, operands: &[u8]) -> io::Result<()> {
     let team = lines::number(operands);
     let after = lines::rest(operands);
     let mut set = [0u8; 8];
@@ -17,7 +18,7 @@ pub fn answer(operands: &[u8]) {
     let mut plan = space::of_plan();
     let k = lines::decode(lines::rest(after), &mut plan);
     match plan::worth(&plan[..k], team, set_of(&set)) {
-        Answer::Refused(number, place) => print::refusal(number, place),
-        Answer::Worth(worth) => print::marked(b"WORTH ", worth as u64),
+        Answer::Refused(number, place) => print::refusal(rt, number, place),
+        Answer::Worth(worth) => print::marked(rt, b"WORTH ", worth as u64),
     }
 }

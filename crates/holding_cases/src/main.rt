@@ -1,5 +1,7 @@
 // Give, return and chain of a holding, carried out and refused. Each line of standard input is answered by one line. An empty line and one
 // that starts with `#` come back as they are; any other line is a case: a holding, and then steps, each after a semicolon.
+#![tactic(auto)]
+
 use lines::{input, print};
 use std::io;
 

@@ -1,5 +1,6 @@
 // Counts over plans.
 use lines::print;
+use std::io;
 use std::num::wrapping_add_u64;
 
 // What is counted. In the first group are the plans, in the second their loan days, in the third their glued instruments, in the fourth the sheets
@@ -150,65 +151,69 @@ pub fn plus(a: Counts, b: Counts) -> Counts {
 }
 
 // The plans, on two lines.
-fn show_plans(c: Counts) {
-    print::marked(b"  plans ", c.plans);
-    print::marked(b", with a team away ", c.plans_away);
-    print::marked(b", with every team away ", c.plans_all_away);
-    print::marked(b"; teams ", c.teams);
-    print::marked(b", away ", c.away);
-    print::marked(b"\n  a best division short of a share ", c.short_best);
-    print::marked(b"; shares other than v(all) / p ", c.apart);
-    print::marked(b", other than among n ", c.raised);
-    print::text(b"\n");
+fn show_plans(rt: &impl Print, c: Counts) -> io::Result<()> {
+    print::marked(rt, b"  plans ", c.plans)?;
+    print::marked(rt, b", with a team away ", c.plans_away)?;
+    print::marked(rt, b", with every team away ", c.plans_all_away)?;
+    print::marked(rt, b"; teams ", c.teams)?;
+    print::marked(rt, b", away ", c.away)?;
+    print::marked(rt, b"\n  a best division short of a share ", c.short_best)?;
+    print::marked(rt, b"; shares other than v(all) / p ", c.apart)?;
+    print::marked(rt, b", other than among n ", c.raised)?;
+    print::text(rt, b"\n")
 }
 
 // The sheets that Build writes, on a line.
-fn show_sheets(c: Counts) {
-    print::marked(b"  sheets accepted ", c.accepted);
-    print::marked(b", totals ", c.totals);
-    print::marked(b", shares ", c.shares);
-    print::marked(b"; differences: totals ", c.wrong_totals);
-    print::marked(b", bundles ", c.dependent);
-    print::marked(b", shares ", c.wrong_shares);
-    print::marked(b", cuts ", c.wrong_cuts);
-    print::marked(b", bytes of teams away ", c.away_bytes);
-    print::marked(b", short teams ", c.short);
-    print::marked(b", bytes beyond ", c.beyond);
-    print::text(b"\n");
+fn show_sheets(rt: &impl Print, c: Counts) -> io::Result<()> {
+    print::marked(rt, b"  sheets accepted ", c.accepted)?;
+    print::marked(rt, b", totals ", c.totals)?;
+    print::marked(rt, b", shares ", c.shares)?;
+    print::marked(rt, b"; differences: totals ", c.wrong_totals)?;
+    print::marked(rt, b", bundles ", c.dependent)?;
+    print::marked(rt, b", shares ", c.wrong_shares)?;
+    print::marked(rt, b", cuts ", c.wrong_cuts)?;
+    print::marked(rt, b", bytes of teams away ", c.away_bytes)?;
+    print::marked(rt, b", short teams ", c.short)?;
+    print::marked(rt, b", bytes beyond ", c.beyond)?;
+    print::text(rt, b"\n")
 }
 
 // The changed sheets, on a line.
-fn show_changed(c: Counts) {
-    print::marked(b"  changed sheets ", c.changed);
-    print::marked(b", on the page of a team away ", c.changed_away);
-    print::marked(b", accepted ", c.changed_accepted);
-    print::marked(b", differences ", c.changed_wrong);
-    print::text(b"\n");
+fn show_changed(rt: &impl Print, c: Counts) -> io::Result<()> {
+    print::marked(rt, b"  changed sheets ", c.changed)?;
+    print::marked(rt, b", on the page of a team away ", c.changed_away)?;
+    print::marked(rt, b", accepted ", c.changed_accepted)?;
+    print::marked(rt, b", differences ", c.changed_wrong)?;
+    print::text(rt, b"\n")
 }
 
 // The loan days, on a line.
-pub fn show_days(c: Counts) {
-    print::marked(b"  a team and an instrument: out of its days ", c.barred);
-    print::marked(b", by one day ", c.near);
-    print::marked(b", within with an equal end ", c.level);
-    print::marked(b"; other than without SHELF: shares ", c.lower_shares);
-    print::marked(b", totals ", c.lower_totals);
-    print::text(b"\n");
+pub fn show_days(rt: &impl Print, c: Counts) -> io::Result<()> {
+    print::marked(
+        rt,
+        b"  a team and an instrument: out of its days ",
+        c.barred,
+    )?;
+    print::marked(rt, b", by one day ", c.near)?;
+    print::marked(rt, b", within with an equal end ", c.level)?;
+    print::marked(rt, b"; other than without SHELF: shares ", c.lower_shares)?;
+    print::marked(rt, b", totals ", c.lower_totals)?;
+    print::text(rt, b"\n")
 }
 
 // The glued instruments, on a line.
-pub fn show_glued(c: Counts) {
-    print::marked(b"  plans refused with 18 besides ", c.fallen);
-    print::marked(b", differences ", c.fallen_wrong);
-    print::marked(b"; glued instruments of the others ", c.glued);
-    print::marked(b"; other than without GLUE: shares ", c.gained_shares);
-    print::marked(b", totals ", c.gained_totals);
-    print::text(b"\n");
+pub fn show_glued(rt: &impl Print, c: Counts) -> io::Result<()> {
+    print::marked(rt, b"  plans refused with 18 besides ", c.fallen)?;
+    print::marked(rt, b", differences ", c.fallen_wrong)?;
+    print::marked(rt, b"; glued instruments of the others ", c.glued)?;
+    print::marked(rt, b"; other than without GLUE: shares ", c.gained_shares)?;
+    print::marked(rt, b", totals ", c.gained_totals)?;
+    print::text(rt, b"\n")
 }
 
 // The other three groups.
-pub fn show(c: Counts) {
-    show_plans(c);
-    show_sheets(c);
-    show_changed(c);
+pub fn show(rt: &impl Print, c: Counts) -> io::Result<()> {
+    show_plans(rt, c)?;
+    show_sheets(rt, c)?;
+    show_changed(rt, c)
 }

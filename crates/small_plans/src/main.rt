@@ -4,6 +4,7 @@ use counts::Counts;
 use draw::Family;
 use lines::print;
 use loan::Ends;
+use std::io;
 
 mod away;
 mod changes;
@@ -160,128 +161,152 @@ fn counted_glued(f: Family, e: Ends, seed: u64) -> Counts {
 }
 
 // Counts and shows the plans of a family under its name, and hands back the counts of all so far.
-fn run(name: &[u8], f: Family, seed: u64, before: Counts) -> Counts {
+fn run(rt: &impl Print, name: &[u8], f: Family, seed: u64, before: Counts) -> io::Result<Counts> {
     let c = counted(f, seed);
-    print::text(name);
-    print::text(b"\n");
-    counts::show(c);
-    counts::plus(before, c)
+    print::text(rt, name)?;
+    print::text(rt, b"\n")?;
+    counts::show(rt, c)?;
+    Ok(counts::plus(before, c))
 }
 
 // The same for a family with loan days.
-fn run_lent(name: &[u8], f: Family, e: Ends, seed: u64, before: Counts) -> Counts {
+fn run_lent(
+    rt: &impl Print,
+    name: &[u8],
+    f: Family,
+    e: Ends,
+    seed: u64,
+    before: Counts,
+) -> io::Result<Counts> {
     let c = counted_lent(f, e, seed);
-    print::text(name);
-    print::text(b"\n");
-    counts::show(c);
-    counts::show_days(c);
-    counts::plus(before, c)
+    print::text(rt, name)?;
+    print::text(rt, b"\n")?;
+    counts::show(rt, c)?;
+    counts::show_days(rt, c)?;
+    Ok(counts::plus(before, c))
 }
 
 // The same for a family with loan days and glued instruments.
-fn run_glued(name: &[u8], f: Family, e: Ends, seed: u64, before: Counts) -> Counts {
+fn run_glued(
+    rt: &impl Print,
+    name: &[u8],
+    f: Family,
+    e: Ends,
+    seed: u64,
+    before: Counts,
+) -> io::Result<Counts> {
     let c = counted_glued(f, e, seed);
-    print::text(name);
-    print::text(b"\n");
-    counts::show(c);
-    counts::show_glued(c);
-    counts::plus(before, c)
+    print::text(rt, name)?;
+    print::text(rt, b"\n")?;
+    counts::show(rt, c)?;
+    counts::show_glued(rt, c)?;
+    Ok(counts::plus(before, c))
 }
 
 // Five families of plans with glued instruments, and the counts of all together.
-fn glued() {
+fn glued(rt: &impl Print) -> io::Result<()> {
     let a = run_glued(
+        rt,
         b"CAPS teams with glued instruments",
         caps(),
         none(),
         20213,
         counts::none(),
-    );
+    )?;
     let b = run_glued(
+        rt,
         b"LOOPS teams with glued instruments",
         loops(),
         none(),
         20214,
         a,
-    );
+    )?;
     let c = run_glued(
+        rt,
         b"MOUNTS teams with glued instruments",
         mounts(),
         none(),
         20215,
         b,
-    );
+    )?;
     let d = run_glued(
+        rt,
         b"uneven teams with glued instruments",
         uneven(),
         none(),
         20216,
         c,
-    );
+    )?;
     let e = run_glued(
+        rt,
         b"uneven teams with loan days and glued instruments",
         uneven(),
         open(),
         20217,
         d,
-    );
-    print::text(b"all with glued instruments\n");
-    counts::show(e);
-    counts::show_glued(e);
+    )?;
+    print::text(rt, b"all with glued instruments\n")?;
+    counts::show(rt, e)?;
+    counts::show_glued(rt, e)
 }
 
 // Six families of plans with loan days, and the counts of all together.
-fn lent() {
+fn lent(rt: &impl Print) -> io::Result<()> {
     let a = run_lent(
+        rt,
         b"CAPS teams with loan days",
         caps(),
         few(),
         20207,
         counts::none(),
-    );
-    let b = run_lent(b"LOOPS teams with loan days", loops(), few(), 20208, a);
-    let c = run_lent(b"MOUNTS teams with loan days", masks(), few(), 20209, b);
+    )?;
+    let b = run_lent(rt, b"LOOPS teams with loan days", loops(), few(), 20208, a)?;
+    let c = run_lent(rt, b"MOUNTS teams with loan days", masks(), few(), 20209, b)?;
     let d = run_lent(
+        rt,
         b"teams of every kind with loan days of two bytes",
         mixed(),
         wide(),
         20210,
         c,
-    );
+    )?;
     let e = run_lent(
+        rt,
         b"uneven teams with loan days of two bytes",
         uneven(),
         wide(),
         20211,
         d,
-    );
+    )?;
     let f = run_lent(
+        rt,
         b"uneven teams, more than half of them without DAYS",
         uneven(),
         open(),
         20212,
         e,
-    );
-    print::text(b"all with loan days\n");
-    counts::show(f);
-    counts::show_days(f);
+    )?;
+    print::text(rt, b"all with loan days\n")?;
+    counts::show(rt, f)?;
+    counts::show_days(rt, f)
 }
 
 // Six families of plans without loan days, and the counts of all together; then those with loan days and those with glued instruments.
-fn main() {
-    let a = run(b"CAPS teams", caps(), 20201, counts::none());
-    let b = run(b"LOOPS teams", loops(), 20202, a);
-    let c = run(b"MOUNTS teams on four mounts", mounts(), 20203, b);
+fn main(rt: HostRuntime) -> io::Result<()> {
+    let a = run(&rt, b"CAPS teams", caps(), 20201, counts::none())?;
+    let b = run(&rt, b"LOOPS teams", loops(), 20202, a)?;
+    let c = run(&rt, b"MOUNTS teams on four mounts", mounts(), 20203, b)?;
     let d = run(
+        &rt,
         b"MOUNTS teams with sparse and full masks",
         masks(),
         20204,
         c,
-    );
-    let e = run(b"teams of every kind", mixed(), 20205, d);
-    let f = run(b"uneven teams", uneven(), 20206, e);
-    print::text(b"all\n");
-    counts::show(f);
-    lent();
-    glued();
+    )?;
+    let e = run(&rt, b"teams of every kind", mixed(), 20205, d)?;
+    let f = run(&rt, b"uneven teams", uneven(), 20206, e)?;
+    print::text(&rt, b"all\n")?;
+    counts::show(&rt, f)?;
+    lent(&rt)?;
+    glued(&rt)
 }

@@ -2,8 +2,8 @@
 // as they are; any other line is a case, answered by its text: `week PLAN`, `list SHEET / PLAN`, `give TEAMS / PLAN` or `line NUMBER PLACE`,
 // each also after `room SIZE`.
 use builder::Built;
-use libc::STDIN_FILENO;
-use lines::print;
+use lines::{input, print};
+use std::io;
 
 mod numbers;
 mod room;
@@ -11,49 +11,50 @@ mod sheets;
 mod writing;
 
 // Answers a case by the text that it writes into 512 bytes, or by the refusal that it answers.
-fn text(case: &[u8]) {
+fn text(rt: &impl Print, case: &[u8]) -> io::Result<()> {
     let mut space = [0u8; 512];
     match writing::write(case, &mut space) {
-        Built::Wrote(long) => print::text(lines::front(&space, long)),
+        Built::Wrote(long) => print::text(rt, lines::front(&space, long)),
         Built::Refused(number, place) => {
-            print::refusal(number, place);
-            print::text(b"\n");
+            print::refusal(rt, number, place)?;
+            print::text(rt, b"\n")
         }
     }
 }
 
 // Answers a line that is a case.
-fn perform(line: &[u8]) {
+fn perform(rt: &impl Print, line: &[u8]) -> io::Result<()> {
     if lines::same(lines::word(line), b"room") {
-        room::answer(lines::rest(line));
+        room::answer(rt, lines::rest(line))
     } else {
-        text(line);
+        text(rt, line)
     }
 }
 
 // Answers a line.
-fn answer(line: &[u8]) {
+fn answer(rt: &impl Print, line: &[u8]) -> io::Result<()> {
     if lines::is_note(line) {
-        print::text(line);
-        print::text(b"\n");
+        print::text(rt, line)?;
+        print::text(rt, b"\n")
     } else {
-        perform(line);
+        perform(rt, line)
     }
 }
 
 // Answers each line of a text.
-fn run(text: &[u8]) {
+fn run(rt: &impl Print, text: &[u8]) -> io::Result<()> {
     let mut at: usize = 0;
     while at < text.len() {
         let end = lines::line_end(text, at);
-        answer(&text[at..end]);
+        answer(rt, &text[at..end])?;
         at = end + 1;
     }
+    Ok(())
 }
 
 // Of standard input the first 65,536 bytes are read.
-fn main() {
-    let mut space = io::large_buffer();
-    let n = io::read_full(STDIN_FILENO, &mut space);
-    run(&space[..n]);
+fn main(rt: HostRuntime) -> io::Result<()> {
+    let mut space = [0u8; 65536];
+    let n = input::read_full(&rt, &mut space)?;
+    run(&rt, &space[..n])
 }

@@ -3,6 +3,7 @@
 use crate::writing;
 use builder::Built;
 use lines::print;
+use std::io;
 
 // What stands in each byte before the case.
 const FILLER: u8 = 0xaa;
@@ -19,10 +20,10 @@ fn unchanged_from(space: &[u8; 1024]) -> usize {
 }
 
 // What a case answers: the length of the text, or a refusal.
-fn show(b: Built) {
+fn show(rt: &impl Print, b: Built) -> io::Result<()> {
     match b {
-        Built::Refused(number, place) => print::refusal(number, place),
-        Built::Wrote(long) => print::marked(b"WROTE ", long as u64),
+        Built::Refused(number, place) => print::refusal(rt, number, place),
+        Built::Wrote(long) => print::marked(rt, b"WROTE ", long as u64),
     }
 }
 
@@ -35,12 +36,12 @@ fn write(case: &[u8], space: &mut [u8], size: usize) -> Built {
 }
 
 // Answers the verb.
-pub fn answer(operands: &[u8]) {
+pub fn answer(rt: &impl Print, operands: &[u8]) -> io::Result<()> {
     let size = lines::number(operands);
     let mut space = [FILLER; 1024];
-    show(write(lines::rest(operands), &mut space, size));
+    show(rt, write(lines::rest(operands), &mut space, size))?;
     let from = unchanged_from(&space);
-    print::marked(b"; UNCHANGED FROM ", from as u64);
-    print::text(b"\n");
-    print::text(lines::front(&space, from));
+    print::marked(rt, b"; UNCHANGED FROM ", from as u64)?;
+    print::text(rt, b"\n")?;
+    print::text(rt, lines::front(&space, from))
 }

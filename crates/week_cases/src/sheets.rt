@@ -3,8 +3,8 @@ use builder::Built;
 
 // `list SHEET / PLAN`: the listing of a sheet that is written in hexadecimal.
 pub fn list(operands: &[u8], buffer: &mut [u8]) -> Built {
-    let mut sheet = io::buffer();
-    let mut plan = io::buffer();
+    let mut sheet = [0u8; 4096];
+    let mut plan = [0u8; 4096];
     let s = lines::decode(operands, &mut sheet);
     let p = lines::decode(lines::after(operands, b'/'), &mut plan);
     listing::list(&plan[..p], &sheet[..s], buffer)
@@ -30,7 +30,7 @@ fn front(plan: &[u8], space: &[u8; 2642], long: usize, buffer: &mut [u8]) -> Bui
 pub fn give(operands: &[u8], buffer: &mut [u8]) -> Built {
     let mut teams = [255u8; 64];
     lines::decode(operands, &mut teams);
-    let mut plan = io::buffer();
+    let mut plan = [0u8; 4096];
     let k = lines::decode(lines::after(operands, b'/'), &mut plan);
     let mut sheet = [0u8; 2642];
     let b = builder::build(&plan[..k], &mut sheet);

@@ -5,6 +5,7 @@ use crate::defined;
 use command::Command;
 use kinds::Valuation;
 use lines::print;
+use std::io;
 use team::Team;
 
 // How many bytes a command has: at most six.
@@ -54,47 +55,49 @@ pub fn count(byte: u8) -> usize
 }
 
 // The worth, with a mark where the definition of a set of at most seven members says another.
-fn show_worth(v: Valuation, m: usize, set: u64)
+fn show_worth(rt: &impl Print, v: Valuation, m: usize, set: u64) -> io::Result<()>
     requires { m ≤ 64 }
 {
     let answer = kinds::worth_of(v, m, set) as u64;
-    print::marked(b"worth ", answer);
+    print::marked(rt, b"worth ", answer)?;
     if sets::size(rule::below(m, set)) < 8 {
         if answer != defined::worth(v, m, set) {
-            print::text(b" DIFFERS");
+            print::text(rt, b" DIFFERS")?;
         }
     }
+    Ok(())
 }
 
 // The members of a set, rising, each after a space.
-pub fn members(set: u64) {
+pub fn members(rt: &impl Print, set: u64) -> io::Result<()> {
     for g in 0..64usize {
         if sets::member(set, g) {
-            print::marked(b" ", g as u64);
+            print::marked(rt, b" ", g as u64)?;
         }
     }
+    Ok(())
 }
 
 // What an independent set gains, with a mark where the definition says another.
-fn show_gains(v: Valuation, m: usize, set: u64)
+fn show_gains(rt: &impl Print, v: Valuation, m: usize, set: u64) -> io::Result<()>
     requires { m ≤ 64 }
 {
     let team = v.team;
     if !rule::independent(team, rule::below(m, set)) {
-        print::text(b", not independent");
-        return;
+        return print::text(rt, b", not independent");
     }
     let answer = kinds::gains_of(v, m, set);
-    print::text(b", gains");
-    members(answer);
+    print::text(rt, b", gains")?;
+    members(rt, answer)?;
     if answer != defined::gains(v, m, set) {
-        print::text(b" DIFFERS");
+        print::text(rt, b" DIFFERS")?;
     }
+    Ok(())
 }
 
 // Answers the verb.
-pub fn answer(hex: &[u8]) {
-    let mut space = io::buffer();
+pub fn answer(rt: &impl Print, hex: &[u8]) -> io::Result<()> {
+    let mut space = [0u8; 4096];
     let k = lines::decode(hex, &mut space);
     let bytes = &space[..k];
     let m = count(command::decode::byte_at(bytes, 0));
@@ -106,6 +109,6 @@ pub fn answer(hex: &[u8]) {
         usable: sets::all_below(m),
         glued: 0,
     };
-    show_worth(valuation, m, set);
-    show_gains(valuation, m, set);
+    show_worth(rt, valuation, m, set)?;
+    show_gains(rt, valuation, m, set)
 }

@@ -8,6 +8,7 @@ use kinds::Valuation;
 use lines::print;
 use rule::glue;
 use rule::glue::Site;
+use std::io;
 
 // The valuation of a team, every instrument below m on the shelf for its days.
 fn valuation(s: Site, m: usize) -> Valuation
@@ -22,32 +23,33 @@ fn valuation(s: Site, m: usize) -> Valuation
 }
 
 // The worth, with a mark where the definition of a set of at most seven members says another.
-fn show_worth(s: Site, m: usize, set: u64)
+fn show_worth(rt: &impl Print, s: Site, m: usize, set: u64) -> io::Result<()>
     requires { m ≤ 64 }
 {
     let answer = kinds::worth_of(valuation(s, m), m, set);
-    print::marked(b"worth ", answer as u64);
+    print::marked(rt, b"worth ", answer as u64)?;
     if sets::size(rule::below(m, set)) < 8 {
         if answer != glue::worth(s, m, set) {
-            print::text(b" DIFFERS");
+            print::text(rt, b" DIFFERS")?;
         }
     }
+    Ok(())
 }
 
 // What an independent set gains, with a mark where the definition says another.
-fn show_gains(s: Site, m: usize, set: u64)
+fn show_gains(rt: &impl Print, s: Site, m: usize, set: u64) -> io::Result<()>
     requires { m ≤ 64 }
 {
     if !glue::independent(s, rule::below(m, set)) {
-        print::text(b", not independent");
-        return;
+        return print::text(rt, b", not independent");
     }
     let answer = kinds::gains_of(valuation(s, m), m, set);
-    print::text(b", gains");
-    chosen::members(answer);
+    print::text(rt, b", gains")?;
+    chosen::members(rt, answer)?;
     if answer != glue::gains(s, m, set) {
-        print::text(b" DIFFERS");
+        print::text(rt, b" DIFFERS")?;
     }
+    Ok(())
 }
 
 // The team of the commands with its glued instruments; all bits below 64 are usable.
@@ -65,17 +67,16 @@ fn site(bytes: &[u8]) -> Site {
 }
 
 // Answers the verb, and by 18 where the glued instruments of the team do not stand.
-pub fn answer(hex: &[u8]) {
-    let mut space = io::buffer();
+pub fn answer(rt: &impl Print, hex: &[u8]) -> io::Result<()> {
+    let mut space = [0u8; 4096];
     let k = lines::decode(hex, &mut space);
     let bytes = &space[..k];
     let m = chosen::count(byte_at(bytes, 0));
     let set = chosen::set_of(bytes, 9);
     let s = site(bytes);
     if !glue::stands(s) {
-        print::text(b"18");
-        return;
+        return print::text(rt, b"18");
     }
-    show_worth(s, m, set);
-    show_gains(s, m, set);
+    show_worth(rt, s, m, set)?;
+    show_gains(rt, s, m, set)
 }

@@ -1,7 +1,7 @@
 // Worth and gains beside the documents' own words, on random valuations and on chosen teams. Each line of standard input is answered by one
 // line. An empty line and one that starts with `#` come back as they are; any other line is a verb and its operands.
-use libc::STDIN_FILENO;
-use lines::print;
+use lines::{input, print};
+use std::io;
 
 mod chosen;
 mod defined;
@@ -11,56 +11,52 @@ mod loan;
 mod many;
 
 // Answers a line that is a verb and its operands.
-fn perform(line: &[u8]) {
+fn perform(rt: &impl Print, line: &[u8]) -> io::Result<()> {
     let verb = lines::word(line);
     let operands = lines::rest(line);
     if lines::same(verb, b"many") {
-        many::answer(operands, many::PLAIN);
-        return;
+        return many::answer(rt, operands, many::PLAIN);
     }
     if lines::same(verb, b"glued") {
-        many::answer(operands, many::GLUED);
-        return;
+        return many::answer(rt, operands, many::GLUED);
     }
     if lines::same(verb, b"lent") {
-        many::answer(operands, many::LENT);
-        return;
+        return many::answer(rt, operands, many::LENT);
     }
     if lines::same(verb, b"team") {
-        chosen::answer(operands);
-        return;
+        return chosen::answer(rt, operands);
     }
     if lines::same(verb, b"gained") {
-        gained::answer(operands);
-        return;
+        return gained::answer(rt, operands);
     }
-    print::text(b"UNKNOWN ");
-    print::text(verb);
+    print::text(rt, b"UNKNOWN ")?;
+    print::text(rt, verb)
 }
 
 // Answers a line.
-fn answer(line: &[u8]) {
+fn answer(rt: &impl Print, line: &[u8]) -> io::Result<()> {
     if lines::is_note(line) {
-        print::text(line);
+        print::text(rt, line)?;
     } else {
-        perform(line);
+        perform(rt, line)?;
     }
-    print::text(b"\n");
+    print::text(rt, b"\n")
 }
 
 // Answers each line of a text.
-fn run(text: &[u8]) {
+fn run(rt: &impl Print, text: &[u8]) -> io::Result<()> {
     let mut at: usize = 0;
     while at < text.len() {
         let end = lines::line_end(text, at);
-        answer(&text[at..end]);
+        answer(rt, &text[at..end])?;
         at = end + 1;
     }
+    Ok(())
 }
 
 // Of standard input the first 65,536 bytes are read.
-fn main() {
-    let mut space = io::large_buffer();
-    let n = io::read_full(STDIN_FILENO, &mut space);
-    run(&space[..n]);
+fn main(rt: HostRuntime) -> io::Result<()> {
+    let mut space = [0u8; 65536];
+    let n = input::read_full(&rt, &mut space)?;
+    run(&rt, &space[..n])
 }

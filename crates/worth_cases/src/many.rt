@@ -8,6 +8,7 @@ use crate::loan::Ends;
 use crate::{defined, draw, loan};
 use lines::print;
 use rule::glue;
+use std::io;
 use std::num::wrapping_add_u64;
 
 // What is drawn besides the team and the set: nothing, usable and glued instruments, or loan days.
@@ -172,24 +173,23 @@ fn long(sort: u8) -> usize {
 }
 
 // `COUNT cases, worth W, gains G, differences D`.
-fn show(count: usize, t: Tally) {
-    print::marked(b"", count as u64);
-    print::marked(b" cases, worth ", t.worth);
-    print::marked(b", gains ", t.gains);
-    print::marked(b", differences ", t.differences);
+fn show(rt: &impl Print, count: usize, t: Tally) -> io::Result<()> {
+    print::marked(rt, b"", count as u64)?;
+    print::marked(rt, b" cases, worth ", t.worth)?;
+    print::marked(rt, b", gains ", t.gains)?;
+    print::marked(rt, b", differences ", t.differences)
 }
 
 // Answers a verb. The rows are hexadecimal, in the order of a family's fields, and after them for `lent` those of the ends of days.
-pub fn answer(operands: &[u8], sort: u8) {
+pub fn answer(rt: &impl Print, operands: &[u8], sort: u8) -> io::Result<()> {
     let after = lines::rest(operands);
     let count = lines::number(operands);
     let seed = lines::number(after);
-    let mut space = io::buffer();
+    let mut space = [0u8; 4096];
     let k = lines::decode(lines::rest(after), &mut space);
     if k != long(sort) {
-        print::text(b"SIX ROWS OF EIGHT BYTES, AND FOR lent TWELVE");
-        return;
+        return print::text(rt, b"SIX ROWS OF EIGHT BYTES, AND FOR lent TWELVE");
     }
     let t = tallied(family(&space), ends(&space), count, seed as u64, sort);
-    show(count, t);
+    show(rt, count, t)
 }
