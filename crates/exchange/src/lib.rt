@@ -1,4 +1,6 @@
 // The exchange graph of agents, each with a valuation: breadth-first search over exchanges, and the chain back from its end.
+#![tactic(auto)]
+
 use kinds::Valuation;
 
 pub mod chains;

@@ -1,5 +1,7 @@
 // The plan file: commands of one byte with operands of one byte, read into the pool's shelf days, twelve teams with their days, and the
 // instruments that are glued to them.
+#![tactic(auto)]
+
 ghost use Rattle.std.specs.Prelude.{◌≡◌, ◌≤◌, length, get_or};
 ghost use Rattle.team.specs.Team.{blank_team};
 ghost use Rattle.plan.specs.Read.{read_plan, refused, accepted, finished};

@@ -1,0 +1,15 @@
+use mathlib.Core.Path.{refl, sym, ◌∙◌}
+use Rattle.row.specs.Row.{part, row_team}
+use Rattle.plan.specs.Progress.{row_at}
+use Rattle.plan.proofs.Steps.{plan_none}
+use Rattle.plan.proofs.read.Goals as goal
+
+pub returns-then-byte_at-ne1 : goal.returns-then-byte_at-ne1
+returns-then-byte_at-ne1 c = c.refuse.ensures ∙ sym (plan_none _ (λ e. c.if-byte_at-ne1.true (c.byte_at.ensures ∙ e)))
+
+pub read_commands-p-requires : goal.read_commands-p-requires
+unfolding row_at row_team part
+read_commands-p-requires c = (sym c.byte_at.ensures ∙ c.if-byte_at-ne1.false, refl, refl, refl)
+
+pub returns : goal.returns
+returns c = c.answer.ensures ∙ c.read_commands-p.ensures.same
