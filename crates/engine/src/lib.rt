@@ -1,4 +1,6 @@
 // The engine: from agents, each with a valuation, to a division of greatest total in which nobody is short, with certificates.
+#![tactic(auto)]
+
 pub mod deal;
 pub mod divide;
 pub mod fill;
