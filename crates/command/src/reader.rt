@@ -1,4 +1,4 @@
-// The reader of a plan. Each function that holds one is proved by hand, so these are few, and `decode::found_at` does the work.
+// The reader of a plan: it hands out the commands one after another.
 ghost use Rattle.std.specs.Prelude.{◌≡◌};
 ghost use Rattle.command.specs.Reader.{reader_at, next_of};
 

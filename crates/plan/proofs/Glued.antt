@@ -1,6 +1,6 @@
 -- Note 6 of an accepted plan: which sets are independent for a team, what a set is worth to it, and that a glued instrument is in no bundle.
 use Prim.Native.Nat.{ℕ, ◌+◌, ◌<◌}
-use mathlib.Core.Path.{◌≡◌, refl, sym, ap, ◌∙◌, subst, subst⁻¹}
+use mathlib.Core.Path.{◌≡◌, refl, sym, ap, ◌∙◌, subst⁻¹}
 use mathlib.Core.Bool.{Bool, true, false, ◌&&◌, ◌||◌, not}
 use mathlib.Core.Logic.{◌↔◌}
 use mathlib.Core.List.{List}

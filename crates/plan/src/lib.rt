@@ -107,7 +107,7 @@ fn finish(file: &[u8], at: usize, s: State, rows: &[u8]) -> Reading
 }
 
 // Reads the commands of a file whose first byte is 01 into the table of rows: a reader hands out one after another, until one breaks a rule or is
-// an END in its place. It holds the reader, so it is proved by hand, and `step` does the work.
+// an END in its place.
 fn read_commands(file: &[u8], rows: &mut [u8]) -> Progress
     requires { (get_or file.now 0 0 ≡ 1) × (length rows.old ≡ 4802) × (row_at rows.old 0 ≡ blank_team) × (row_at rows.old 13 ≡ blank_team) }
     ensures { Ended file.now result rows.new }

@@ -3,7 +3,7 @@ use Rattle.sets.proofs.Gathering.{Gathered}
 use Rattle.plan.proofs.Present.{manned}
 use Rattle.plan.proofs.present_of.Given as goal
 
--- `present_of` meets its contract. The invariant: the word holds the teams below t that have channels.
+-- The word holds the teams below t that have channels.
 abbrev pub invariant-loop-t : goal.invariant-loop-t
 invariant-loop-t l = (l.t ≤ l.count) × Gathered (manned l.r.teams) l.t l.here
 

@@ -4,7 +4,7 @@ use Rattle.sets.proofs.Each.{Tabled}
 use Rattle.plan.proofs.Valuing.{valued_at}
 use Rattle.plan.proofs.valuations_of.Given as goal
 
--- `valuations_of` meets its contract. The invariant: the entries below t are the valuations of the teams.
+-- The entries below t are the valuations of the teams.
 abbrev pub invariant-loop-t : goal.invariant-loop-t
 invariant-loop-t l = (l.t ≤ l.n) × Tabled 12 (valued_at l.r) blank_valuation l.t l.valuations
 

@@ -5,10 +5,14 @@ use Rattle.plan.proofs.Answers.{answer_refused, answer_worth, answer_absent, ans
 use Rattle.plan.proofs.worth.Goals as goal
 
 pub returns-then-r-ne0 : goal.returns-then-r-ne0
-returns-then-r-ne0 c = answer_told _ _ _ _ (answer_refused _ _ _ _ c.read-r.ensures c.if-r-ne0.true)
+returns-then-r-ne0 c =
+    let is = answer_refused c.args.file.now c.args.team c.args.set _ c.read-r.ensures c.if-r-ne0.true in
+    record { answer = is; told = (answer_told _ _ _ _ is).1 }
 
 pub returns-then-team-r : goal.returns-then-team-r
-returns-then-team-r c = answer_told _ _ _ _ (answer_absent _ _ _ _ c.read-r.ensures c.if-r-ne0.false c.if-team-r.true)
+returns-then-team-r c =
+    let is = answer_absent c.args.file.now c.args.team c.args.set _ c.read-r.ensures c.if-r-ne0.false c.if-team-r.true in
+    record { answer = is; told = (answer_told _ _ _ _ is).1 }
 
 pub valuations_of-valuations-requires : goal.valuations_of-valuations-requires
 valuations_of-valuations-requires c = valid_reading _ _ c.read-r.ensures c.if-r-ne0.false
@@ -25,4 +29,5 @@ worth_of-requires c = (valid_reading _ _ c.read-r.ensures c.if-r-ne0.false).smal
 pub returns : goal.returns
 returns c = let read = c.read-r.ensures in
     let z = c.if-r-ne0.false in
-    answer_told _ _ _ _ (answer_worth _ _ _ _ read _ _ z (valued_here _ _ _ _ (valid_reading _ _ read z).few c.if-team-r.false c.valuations_of-valuations.ensures) c.worth_of.ensures)
+    let is = answer_worth c.args.file.now c.args.team c.args.set _ read _ _ z (valued_here _ _ _ _ (valid_reading _ _ read z).few c.if-team-r.false c.valuations_of-valuations.ensures) c.worth_of.ensures in
+    record { answer = is; told = (answer_told _ _ _ _ is).1 }

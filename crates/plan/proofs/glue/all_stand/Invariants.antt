@@ -3,7 +3,7 @@ use Rattle.plan.proofs.Gluing.{Stands}
 use Rattle.plan.proofs.Standing.{reading_of}
 use Rattle.plan.proofs.glue.all_stand.Given as goal
 
--- `all_stand` meets its contract. The invariant: the glued instruments of the teams below t stand.
+-- The glued instruments of the teams below t stand.
 abbrev pub invariant-loop-t : goal.invariant-loop-t
 invariant-loop-t l = (l.t ≤ l.n) × ((k : ℕ) → k < l.t → Stands (reading_of l.m l.n l.rows) k)
 

@@ -4,7 +4,7 @@ use Rattle.matroid.specs.Set.{size}
 use Rattle.judge.specs.Fault.{named}
 use Rattle.plan.proofs.glue.some.Given as goal
 
--- `some` meets its contract. The invariant: the instruments below i that are glued are counted.
+-- The instruments below i that are glued are counted.
 abbrev pub invariant-loop-i : goal.invariant-loop-i
 invariant-loop-i l = (l.count ≡ size l.i (named l.glue)) × (l.i ≤ 64)
 

@@ -5,7 +5,7 @@ use Rattle.row.specs.Days.{shelf_of}
 use Rattle.sets.proofs.Each.{Tabled}
 use Rattle.plan.proofs.parts.shelf.Given as goal
 
--- `shelf` meets its contract. The invariant: the entries below i are the shelf days of the pool's row.
+-- The entries below i are the shelf days of the pool's row.
 abbrev pub invariant-loop-i : goal.invariant-loop-i
 invariant-loop-i l = (l.i ≤ l.m) × Tabled 64 (shelf_of (row_team l.pool)) always l.i l.shelf
 

@@ -2,7 +2,6 @@ use Prim.Native.Nat.{◌<◌}
 use mathlib.Core.Path.{◌≡◌, refl, sym, ◌∙◌}
 use native.Mathlib.Omega.{arith}
 use lib.ListN.{length}
-use Rattle.days.specs.Days.{always}
 use Rattle.plan.proofs.Valuing.{word_own, word_every}
 use Rattle.sets.proofs.Each.{tabled_none, tabled_next, tabled_all}
 use borrow.Author.Rules.{rules}

@@ -5,7 +5,7 @@ use Rattle.days.specs.Days.{always, usable_on}
 use Rattle.sets.proofs.Each.{Tabled}
 use Rattle.plan.proofs.usable.words.Given as goal
 
--- `words` meets its contract. The invariant: the entries below t are the words of the teams.
+-- The entries below t are the words of the teams.
 abbrev pub invariant-loop-t : goal.invariant-loop-t
 invariant-loop-t l = (l.t ≤ l.n) × Tabled 12 (λ k. word l.m (usable_on l.shelf (get_or l.days k always))) 0 l.t l.words
 
