@@ -1,4 +1,6 @@
 // Check and Page: a sheet is accepted exactly by the rules, and what an accepted sheet states is true.
+#![tactic(auto)]
+
 ghost use Rattle.std.specs.Prelude.{◌≡◌, ◌≤◌, length};
 ghost use Rattle.sets.specs.Bits.{bit};
 ghost use Rattle.plan.specs.Teams.{present};

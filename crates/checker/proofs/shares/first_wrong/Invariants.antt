@@ -1,0 +1,11 @@
+use Prim.Native.Nat.{◌-◌, ◌≤◌}
+use Rattle.sets.specs.Bits.{bit}
+use Rattle.kinds.specs.Valuations.{matroids}
+use Rattle.checker.proofs.Shared.{Shown}
+use Rattle.checker.proofs.shares.first_wrong.Given as goal
+
+abbrev pub invariant-loop-t : goal.invariant-loop-t
+invariant-loop-t l = (l.t ≤ l.n) × Shown l.n (bit l.here) (matroids l.m l.valuations) l.sheet l.t
+
+abbrev pub decreases-loop-t : goal.decreases-loop-t
+decreases-loop-t l = l.n - l.t
