@@ -1,6 +1,6 @@
 // Which rule a command breaks first, by the state and the row that the command works on: the open team's, and for GLUE that of the glued
 // instruments. 0: none.
-#![tactic(auto)]
+#![tactic(auto, unfolding(row::specs::Row::row_team))]
 
 ghost use Rattle.std.specs.Prelude.{◌≡◌, length};
 ghost use Rattle.judge.specs.Fault.{fault, start_rules, team_rules, class_rules, put_rules, span_rules, fit_rules, shelf_rules, days_rules, glue_rules, end_rules, is_end, named};
@@ -62,6 +62,7 @@ fn put_fault(row: &[u8], s: State, instrument: u8, class: u8) -> usize
 }
 
 // SPAN: in a LOOPS team, an instrument below m, two different joints, named once.
+#[tactic(auto, unfolding(row::specs::Row::row_team, team::specs::Team::joints))]
 fn span_fault(row: &[u8], s: State, instrument: u8, a: u8, b: u8) -> usize
     requires { length row.now ≡ 343 }
     ensures { result ≡ first_broken 0 (span_rules s (row_team row.now) instrument a b) }
@@ -119,6 +120,7 @@ fn shelf_fault(row: &[u8], s: State, instrument: u8, a: u8, b: u8, c: u8, d: u8)
 }
 
 // DAYS: in a team of any kind, days that are in order, one for each team.
+#[tactic(auto, using(crate::proofs::Naming::days_byte), unfolding(row::specs::Row::row_team))]
 fn days_fault(row: &[u8], s: State, a: u8, b: u8, c: u8, d: u8) -> usize
     requires { length row.now ≡ 343 }
     ensures { result ≡ first_broken 0 (days_rules s (row_team row.now) (day_of a b) (day_of c d)) }

@@ -1,6 +1,7 @@
 pub mod Tables
 pub mod Rows
 pub mod Following
+pub mod Again
 pub mod Run
 pub mod Kept
 pub mod Steps

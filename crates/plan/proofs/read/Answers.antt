@@ -1,4 +1,5 @@
 use mathlib.Core.Path.{refl, sym, ◌∙◌}
+use native.Mathlib.Omega.{arith}
 use Rattle.row.specs.Row.{part, row_team}
 use Rattle.plan.specs.Progress.{row_at}
 use Rattle.plan.proofs.Steps.{plan_none}
@@ -9,7 +10,7 @@ returns-then-byte_at-ne1 c = c.refuse.ensures ∙ sym (plan_none _ (λ e. c.if-b
 
 pub read_commands-p-requires : goal.read_commands-p-requires
 unfolding row_at row_team part
-read_commands-p-requires c = (sym c.byte_at.ensures ∙ c.if-byte_at-ne1.false, refl, refl, refl)
+read_commands-p-requires c = (omega arith, refl, refl, refl)
 
 pub returns : goal.returns
 returns c = c.answer.ensures ∙ c.read_commands-p.ensures.same

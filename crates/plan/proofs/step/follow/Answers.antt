@@ -15,20 +15,20 @@ pub returns-then-fault-ne0 : goal.returns-then-fault-ne0
 returns-then-fault-ne0 c = follow_refused _ _ _ _ _ c.row_of-start.ensures _ c.fault_of-fault.ensures c.if-fault-ne0.true
 
 pub returns-then-is_end : goal.returns-then-is_end
-returns-then-is_end c = follow_end _ _ _ _ _ c.row_of-start.ensures _ c.fault_of-fault.ensures c.if-fault-ne0.false (sym c.is_end.ensures ∙ c.if-is_end.true)
+returns-then-is_end c = follow_end _ _ _ _ _ c.row_of-start.ensures _ c.fault_of-fault.ensures (omega arith) (sym c.is_end.ensures ∙ c.if-is_end.true)
 
 pub overflow_mul-start-2 : goal.overflow_mul-start-2
-overflow_mul-start-2 c = let l = follow_row _ _ _ _ _ c.row_of-start.ensures _ c.fault_of-fault.ensures c.if-fault-ne0.false _ c.changed_state-next.ensures _ c.row_of-start-2.ensures c.requires.1 in omega arith
+overflow_mul-start-2 c = let l = follow_row _ _ _ _ _ c.row_of-start.ensures _ c.fault_of-fault.ensures (omega arith) _ c.changed_state-next.ensures _ c.row_of-start-2.ensures c.requires.1 in omega arith
 
 pub overflow_add-start-2 : goal.overflow_add-start-2
-overflow_add-start-2 c = let l = follow_row _ _ _ _ _ c.row_of-start.ensures _ c.fault_of-fault.ensures c.if-fault-ne0.false _ c.changed_state-next.ensures _ c.row_of-start-2.ensures c.requires.1 in omega arith
+overflow_add-start-2 c = let l = follow_row _ _ _ _ _ c.row_of-start.ensures _ c.fault_of-fault.ensures (omega arith) _ c.changed_state-next.ensures _ c.row_of-start-2.ensures c.requires.1 in omega arith
 
 pub change-requires : goal.change-requires
-change-requires c = (search rules, follow_few _ _ _ _ _ c.row_of-start.ensures _ c.fault_of-fault.ensures c.if-fault-ne0.false c.requires.1 _ c.changed_state-next.ensures)
+change-requires c = (search rules, follow_few _ _ _ _ _ c.row_of-start.ensures _ c.fault_of-fault.ensures (omega arith) c.requires.1 _ c.changed_state-next.ensures)
 
 pub returns : goal.returns
-returns c = follow_on _ _ _ _ _ c.row_of-start.ensures _ c.fault_of-fault.ensures c.if-fault-ne0.false _ c.changed_state-next.ensures _ c.row_of-start-2.ensures
+returns c = follow_on _ _ _ _ _ c.row_of-start.ensures _ c.fault_of-fault.ensures (omega arith) _ c.changed_state-next.ensures _ c.row_of-start-2.ensures
     (sym c.is_end.ensures ∙ c.if-is_end.false) c.requires.0 c.requires.1 _ (search rules) c.change.ensures
 
 pub slice_bounds-change-end : goal.slice_bounds-change-end
-slice_bounds-change-end c = let l = follow_row _ _ _ _ _ c.row_of-start.ensures _ c.fault_of-fault.ensures c.if-fault-ne0.false _ c.changed_state-next.ensures _ c.row_of-start-2.ensures c.requires.1 in let long = c.requires.0 in omega arith
+slice_bounds-change-end c = let l = follow_row _ _ _ _ _ c.row_of-start.ensures _ c.fault_of-fault.ensures (omega arith) _ c.changed_state-next.ensures _ c.row_of-start-2.ensures c.requires.1 in let long = c.requires.0 in omega arith
