@@ -1,6 +1,8 @@
 // Plans that need long chains, chains through several teams, or the shortest of several chains (`divide HEX`), and long chains carried out on a
 // holding (`hold CASE`). Each line of standard input is answered in turn. An empty line and one that starts with `#` come back as they are; any
 // other line is a verb and its operands.
+#![tactic(auto)]
+
 use lines::{input, print};
 use std::io;
 

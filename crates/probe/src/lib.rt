@@ -1,4 +1,6 @@
 // For benchmarks: worth and gains of one team of a plan, called one time after another on sets that change, the answers added up.
+#![tactic(auto)]
+
 ghost use Rattle.std.specs.Prelude.{◌≤◌};
 
 use kinds::Valuation;

@@ -1,5 +1,7 @@
 // Worth and gains beside the documents' own words, on random valuations and on chosen teams. Each line of standard input is answered by one
 // line. An empty line and one that starts with `#` come back as they are; any other line is a verb and its operands.
+#![tactic(auto)]
+
 use lines::{input, print};
 use std::io;
 
