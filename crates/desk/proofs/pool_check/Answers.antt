@@ -1,4 +1,4 @@
-use mathlib.Core.Path.{refl, sym, ap, ◌∙◌}
+use mathlib.Core.Path.{refl, ap}
 use native.Mathlib.Omega.{arith}
 use Rattle.desk.specs.Desk.{desk_verdict}
 use Rattle.desk.proofs.Small.{verdict_told}
