@@ -1,4 +1,6 @@
 // Build: writes a sheet that Check accepts.
+#![tactic(auto)]
+
 ghost use Rattle.std.specs.Prelude.{◌≡◌};
 ghost use Rattle.builder.specs.Build.{build_answer, Answered, BuildTold};
 

@@ -1,6 +1,6 @@
 -- What a set closed under exchange certifies: that a division is best, and that none of it is loose.
 use Prim.Native.Nat.{ℕ, ◌+◌, ◌≤◌, ◌<◌}
-use mathlib.Core.Path.{◌≡◌, sym, subst, subst⁻¹}
+use mathlib.Core.Path.{◌≡◌, sym, subst⁻¹}
 use mathlib.Core.Bool.{◌&&◌, not}
 use native.Mathlib.Omega.{arith}
 use lib.Dec.{T, eqb→eq, T_not, not_T, ltb→lt}

@@ -1,6 +1,6 @@
 use Prim.Native.Nat.{min}
 use mathlib.Core.Path.{◌≡◌, refl}
-use mathlib.Core.Logic.{inl, inr, ⊎_elim}
+use mathlib.Core.Logic.{inl, inr}
 use native.Mathlib.Omega.{arith}
 use lib.ListN.{length, get_or}
 use Rattle.holding.proofs.Fits.{fit_few, fit_item}

@@ -1,6 +1,5 @@
 use mathlib.Core.Path.{sym, ◌∙◌}
 use native.Mathlib.Omega.{arith}
-use borrow.Author.Tests.{not-false}
 use Rattle.holding.proofs.Fits.{move_below, fits_none, fits_many, fits_more, fits_stop, fits_twice, fits_all}
 use borrow.Author.Rules.{rules}
 use Rattle.holding.proofs.Holding.fits.Goals as goal

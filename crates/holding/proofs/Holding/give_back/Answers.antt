@@ -1,6 +1,5 @@
 use mathlib.Core.Path.{◌≡◌, sym, ◌∙◌, subst⁻¹}
 use lib.ListN.{length}
-use borrow.Author.Tests.{not-true, not-false}
 use Rattle.holding.specs.Count.{Right}
 use Rattle.holding.specs.Give.{returned}
 use Rattle.holding.proofs.Tests.{instrument_below}

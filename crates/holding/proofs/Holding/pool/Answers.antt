@@ -1,6 +1,5 @@
 use mathlib.Core.Path.{◌≡◌, sym, ◌∙◌}
 use native.Mathlib.Omega.{arith}
-use Rattle.holding.specs.Give.{in_pool}
 use Rattle.holding.proofs.Marks.{marks_none, marks_put, marks_skip}
 use Rattle.holding.proofs.Words.{pool_all}
 use borrow.Author.Rules.{rules}

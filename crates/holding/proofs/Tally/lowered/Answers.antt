@@ -1,7 +1,5 @@
 use native.Mathlib.Omega.{arith}
 use Rattle.holding.proofs.Tallying.{lowered_short, lowered_full}
-use Rattle.holding.proofs.Tally.lowered.Reads as reads
-use Rattle.holding.proofs.Tally.lowered.Lts as lts
 use Rattle.holding.proofs.Tally.lowered.Goals as goal
 use Rattle.holding.proofs.Tally.lowered.Goals.{else-left-self, then-left-self}
 

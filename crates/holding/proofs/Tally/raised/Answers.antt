@@ -1,6 +1,4 @@
 use Rattle.holding.proofs.Tallying.{raised_short, raised_full}
-use Rattle.holding.proofs.Tally.raised.Reads as reads
-use Rattle.holding.proofs.Tally.raised.Lts as lts
 use Rattle.holding.proofs.Tally.raised.Goals as goal
 use Rattle.holding.proofs.Tally.raised.Goals.{else-size-self, then-size-self}
 

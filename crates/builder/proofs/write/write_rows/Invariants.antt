@@ -1,0 +1,9 @@
+use Prim.Native.Nat.{◌≤◌, ◌-◌, ◌*◌}
+use Rattle.builder.specs.Rows.{Row, row_bytes}
+use Rattle.builder.proofs.write.write_rows.Given as goal
+
+abbrev pub invariant-loop-g : goal.invariant-loop-g
+invariant-loop-g l = (l.g ≤ l.m) × Row l.initial.buffer l.buffer l.at (3 * l.g) (row_bytes l.byte l.table)
+
+abbrev pub decreases-loop-g : goal.decreases-loop-g
+decreases-loop-g l = l.m - l.g
