@@ -1,5 +1,7 @@
 // The three demands as promises of callers: each function calls an operation on any bytes, asks nothing, and promises what the demands say. Only
 // those of `holdings` ask something: note 7 wants them called where sizes and shortfall are right.
+#![tactic(auto)]
+
 ghost use Rattle.std.specs.Prelude.{◌≡◌};
 ghost use Rattle.plan.specs.Worth.{worth_number, worth_place, worth_value};
 ghost use Rattle.checker.specs.Verdict.{verdict_number, verdict_place};

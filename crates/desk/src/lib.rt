@@ -1,4 +1,6 @@
 // The desk interface: every operation on byte buffers, answering one number. The crate desk_c exports it to programs in other languages.
+#![tactic(auto)]
+
 ghost use Rattle.std.specs.Prelude.{◌≡◌};
 ghost use Rattle.builder.specs.Build.{build_answer, Answered};
 ghost use Rattle.checker.specs.Check.{check_sheet};

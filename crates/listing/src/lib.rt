@@ -1,4 +1,6 @@
 // The weekly listing: of a sheet, and of a plan that is divided; and the line of a refusal.
+#![tactic(auto)]
+
 ghost use Rattle.std.specs.Prelude.{◌≡◌, ◌≤◌, length};
 ghost use Rattle.sheet.specs.Layout.{length_of};
 ghost use Rattle.listing.specs.Listing.{listing, refusal_line};

@@ -1,5 +1,4 @@
 use mathlib.Core.Path.{◌≡◌, refl, ◌∙◌}
-use mathlib.Core.Bool.{false≢true}
 use native.Mathlib.Omega.{arith}
 use borrow.Author.Count.{below_more}
 use Rattle.engine.proofs.Filling.{worthless_none, agent_worth}
@@ -21,11 +20,10 @@ bounds-valuations-t c = omega (arith, c.requires.few)
 pub worth_of-requires : goal.worth_of-requires
 worth_of-requires c = c.requires.small
 
-pub returns-then-worth_of-ne0 : goal.returns-then-worth_of-ne0
-returns-then-worth_of-ne0 c = λ e. absurd (false≢true e)
-
 pub loop-t-preserved : goal.loop-t-preserved
-loop-t-preserved c = (search rules, below_more _ _ c.loop-t.invariant.1 (agent_worth c.args.s _ _ _ _ _ c.loop-t-test.true c.requires refl c.worth_of.ensures ∙ c.if-worth_of-ne0.false))
+loop-t-preserved c = let is = agent_worth c.args.s _ _ _ _ _ c.loop-t-test.true c.requires refl c.worth_of.ensures in
+    let nothing : c.worth_of.result ≡ 0 = omega arith in
+    (search rules, below_more _ _ c.loop-t.invariant.1 (is ∙ nothing))
 
 pub returns : goal.returns
 returns c = let e : c.loop-t.t ≡ c.args.s.n = omega arith in λ _. record { at = rw e at c.loop-t.invariant.1 }
