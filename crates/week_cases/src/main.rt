@@ -1,6 +1,8 @@
 // The weekly listing of plans and of sheets, and the line of a refusal. An empty line of standard input and one that starts with `#` come back
 // as they are; any other line is a case, answered by its text: `week PLAN`, `list SHEET / PLAN`, `give TEAMS / PLAN` or `line NUMBER PLACE`,
 // each also after `room SIZE`.
+#![tactic(auto)]
+
 use builder::Built;
 use lines::{input, print};
 use std::io;
