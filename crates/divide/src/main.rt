@@ -1,4 +1,6 @@
 // divide: reads a plan from standard input and prints the weekly listing, or the refusal.
+#![tactic(auto)]
+
 use builder::Built;
 use lines::{input, print};
 use std::io;
