@@ -1,5 +1,7 @@
 // Answers each line of standard input by one line. An empty line and one that starts with `#` come back as they are; any other
 // line is a verb and its operands.
+#![tactic(auto)]
+
 use lines::{input, print};
 use std::io;
 

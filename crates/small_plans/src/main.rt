@@ -1,5 +1,7 @@
 // Random plans of up to five instruments and three teams, about one team in four away, without loan days and with them, and with glued
 // instruments: Build's sheets, and what Check says of them and of changed ones, beside a search through all divisions and all cuts.
+#![tactic(auto)]
+
 use counts::Counts;
 use draw::Family;
 use lines::print;

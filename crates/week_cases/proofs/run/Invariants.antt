@@ -1,5 +1,4 @@
-use Prim.Native.Nat.{◌-◌}
-use lib.ListN.{length}
+use Rattle.std.proofs.Common.{◌-◌, length}
 use Rattle.week_cases.proofs.run.Given as goal
 
 abbrev pub decreases-loop-at : goal.decreases-loop-at
