@@ -1,5 +1,6 @@
 use borrow.Author.Tests.{not-true, not-false}
 use mathlib.Core.Path.{refl, ◌∙◌}
+use mathlib.Core.Logic.{◌≢◌}
 use native.Mathlib.Omega.{arith}
 use Rattle.exchange.proofs.Advance.{Advanced, advances}
 use Rattle.engine.proofs.Filling.{ready_of}
@@ -20,7 +21,8 @@ above-rich-requires c = c.loop-h.invariant.0.few
 
 pub only-requires : goal.only-requires
 only-requires c = let held = c.loop-h.invariant.0 in
-    let l = short_agent _ _ held _ c.first_short-i.ensures c.if-h-eq0.false in
+    let some : c.loop-h.h.shortfall ≢ 0 = omega arith in
+    let l = short_agent _ _ held _ c.first_short-i.ensures some in
     omega (arith, l, held.few)
 
 pub search-r-requires : goal.search-r-requires
@@ -34,7 +36,7 @@ returns-then-not-r c = let start = c in
     let words = c.bundles-bundles.result in
     let ready = ready_of s h words held c.bundles-bundles.ensures in
     let first = c.first_short-i.ensures in
-    let some = c.if-h-eq0.false in
+    let some : c.loop-h.h.shortfall ≢ 0 = omega arith in
     let is-only = c.only.ensures in
     let is-rich = c.above-rich.ensures in
     let r = c.search-r.result in
@@ -57,7 +59,7 @@ loop-h-smaller c = let start = c in
     let words = c.bundles-bundles.result in
     let ready = ready_of s h words held c.bundles-bundles.ensures in
     let first = c.first_short-i.ensures in
-    let some = c.if-h-eq0.false in
+    let some : c.loop-h.h.shortfall ≢ 0 = omega arith in
     let is-only = c.only.ensures in
     let is-rich = c.above-rich.ensures in
     let r = c.search-r.result in
@@ -78,7 +80,7 @@ loop-h-preserved c = let start = c in
     let words = c.bundles-bundles.result in
     let ready = ready_of s h words held c.bundles-bundles.ensures in
     let first = c.first_short-i.ensures in
-    let some = c.if-h-eq0.false in
+    let some : c.loop-h.h.shortfall ≢ 0 = omega arith in
     let is-only = c.only.ensures in
     let is-rich = c.above-rich.ensures in
     let r = c.search-r.result in
