@@ -1,13 +1,15 @@
 // Standard input.
-ghost use Rattle.std.specs.Prelude.{IfOk};
+ghost use Rattle.std.specs.Prelude.{◌≡◌, IfOk, length};
 ghost use Rattle.lines.specs.Counts.{IsPrefixLen};
 
 use std::io;
 use std::io::{Input, Read};
 
-// Reads until buf is full or the input ends, and answers how many bytes it put at the start of buf. A read that fails is answered by its error.
+// Reads until buf is full or the input ends, and answers how many bytes it put at the start of buf. A read that fails is answered by its error,
+// and leaves a buffer as long as it was.
 pub fn read_full(rt: &impl Input, buf: &mut [u8]) -> io::Result<usize>
-    ensures { IfOk result (λ n. IsPrefixLen n buf.new) }
+    ensures read { IfOk result (λ n. IsPrefixLen n buf.new) }
+    ensures long { length buf.new ≡ length buf.old }
 {
     let mut reader = rt.reader();
     let mut done: usize = 0;
