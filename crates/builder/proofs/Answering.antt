@@ -21,10 +21,10 @@ use Rattle.command.proofs.Mapped.{first_mapped}
 use Rattle.sheet.specs.Layout.{length_of}
 use Rattle.checker.specs.Check.{verdict_of}
 use Rattle.checker.proofs.Acceptance.{accepts}
-use Rattle.builder.specs.declared.Built.{Built}
-use Rattle.builder.specs.declared.Built.TheVariants.{Refused, Wrote}
+use Rattle.std.proofs.Common.{Ok}
+use Rattle.command.specs.Refusal.{refuse}
 use Rattle.builder.specs.Rows.{Written}
-use Rattle.builder.specs.Build.{build_rules, answer_by, build_answer, built_number, built_place, built_length, BuildTold, Answered, sheet}
+use Rattle.builder.specs.Build.{Built, build_rules, answer_by, build_answer, built_number, built_place, built_length, BuildTold, Answered, sheet}
 use Rattle.builder.proofs.Stating.{states, rest_same}
 
 -- the agents of an accepted reading
@@ -39,38 +39,38 @@ away_agents r row v e here is-here = record { idle = away_row r row v.few e here
 pub build_told : (plan before : List ℕ) (a : Built) → a ≡ build_answer plan before → BuildTold plan before a
 unfolding answer_by
 build_told plan before a e = record {
-  number = ap built_number e ∙ first_mapped built_number (Wrote (length_of r.m r.n)) (build_rules Refused r (length before));
-  place = ap built_place e ∙ first_mapped built_place (Wrote (length_of r.m r.n)) (build_rules Refused r (length before));
-  long = ap built_length e ∙ first_mapped built_length (Wrote (length_of r.m r.n)) (build_rules Refused r (length before));
+  number = ap built_number e ∙ first_mapped built_number (Ok (length_of r.m r.n)) (build_rules refuse r (length before));
+  place = ap built_place e ∙ first_mapped built_place (Ok (length_of r.m r.n)) (build_rules refuse r (length before));
+  long = ap built_length e ∙ first_mapped built_length (Ok (length_of r.m r.n)) (build_rules refuse r (length before));
 }
   where
     r : Reading
     r = read_plan plan
 
 module _ (plan before : List ℕ) (r : Reading) (is : r ≡ read_plan plan) where
-  pub answer_read : r.refusal ≢ 0 → Refused r.refusal r.place ≡ build_answer plan before
+  pub answer_read : r.refusal ≢ 0 → refuse r.refusal r.place ≡ build_answer plan before
   unfolding answer_by
   answer_read d =
-      let here : answer_by r (length before) ≡ Refused r.refusal r.place = rw (ne_eqb r.refusal 0 d, answer_by) refl in
+      let here : answer_by r (length before) ≡ refuse r.refusal r.place = rw (ne_eqb r.refusal 0 d, answer_by) refl in
       sym here ∙ ap (λ (x : Reading). answer_by x (length before)) is
 
-  pub answer_short : r.refusal ≡ 0 → (long : ℕ) → long ≡ length_of r.m r.n → length before < long → Refused 10 long ≡ build_answer plan before
+  pub answer_short : r.refusal ≡ 0 → (long : ℕ) → long ≡ length_of r.m r.n → length before < long → refuse 10 long ≡ build_answer plan before
   unfolding answer_by
   answer_short z long e l =
-      let here : answer_by r (length before) ≡ Refused 10 long = rw (e, eq-eqb r.refusal 0 z, lt-ltb (length before) (length_of r.m r.n) (rw e at l), answer_by) refl in
+      let here : answer_by r (length before) ≡ refuse 10 long = rw (e, eq-eqb r.refusal 0 z, lt-ltb (length before) (length_of r.m r.n) (rw e at l), answer_by) refl in
       sym here ∙ ap (λ (x : Reading). answer_by x (length before)) is
 
-  pub answer_wrote : r.refusal ≡ 0 → (long : ℕ) → long ≡ length_of r.m r.n → long ≤ length before → Wrote long ≡ build_answer plan before
+  pub answer_wrote : r.refusal ≡ 0 → (long : ℕ) → long ≡ length_of r.m r.n → long ≤ length before → Ok long ≡ build_answer plan before
   unfolding answer_by
   answer_wrote z long e l =
-      let here : answer_by r (length before) ≡ Wrote long = rw (e, eq-eqb r.refusal 0 z, le-ltb (length before) (length_of r.m r.n) (rw e at l), answer_by) refl in
+      let here : answer_by r (length before) ≡ Ok long = rw (e, eq-eqb r.refusal 0 z, le-ltb (length before) (length_of r.m r.n) (rw e at l), answer_by) refl in
       sym here ∙ ap (λ (x : Reading). answer_by x (length before)) is
 
   -- what is written is accepted
   pub sheet_wrote : (valid : Valid r) → r.refusal ≡ 0 → (long : ℕ) → long ≡ length_of r.m r.n → long ≤ length before → (row : List Valuation) → row ≡ valuations_of r → (here : Set) → here ≡ present r
       → (after : List ℕ) (total : ℕ) (d : Division) → Written before after r.m r.n total d → Divided (record { m = r.m; n = r.n; valuations = row }) here d
       → total ≡ given (record { m = r.m; n = r.n; valuations = row }) d.holding.owner
-      → Answered plan before after (Wrote long)
+      → Answered plan before after (Ok long)
   sheet_wrote valid z long e l row same here is-here after total d w by-here count =
       let room = rw e at l in
       let div = subst (λ (A : Set). Divided (record { m = r.m; n = r.n; valuations = row }) A d) is-here by-here in

@@ -1,14 +1,14 @@
 -- Laws of rows.
-use Prim.Native.Nat.{ℕ, ◌+◌, ◌-◌, ◌*◌, ◌/◌, ◌%◌, ◌^◌, ◌≤◌, ◌<◌}
+use Prim.Native.Nat.{ℕ, zero, suc, ◌+◌, ◌-◌, ◌*◌, ◌/◌, ◌%◌, ◌^◌, ◌≤◌, ◌<◌}
 use mathlib.Core.Path.{◌≡◌, refl, sym, ap, ◌∙◌, subst}
 use mathlib.Core.Logic.{inl, inr}
-use mathlib.Core.List.{List}
+use mathlib.Core.List.{List, ◌++◌}
 use native.Mathlib.Omega.{arith}
-use native.Mathlib.Nat.{div-div-eq-div-mul, pow-suc, div-one}
-use native.Mathlib.Numerals.{add-one}
+use native.Mathlib.Nat.{div-one}
 use native.Mathlib.Decide.{dec_lt, ℕ_discrete}
-use lib.ListN.{length, get_or, set, length-set}
-use lib.Seq.{get_or-set_same, get_or-set_other}
+use lib.ListN.{length, get_or, set, take, drop, length-set, length-take, length-drop, length-append, get_or-append}
+use lib.Seq.{get_or-set_same, get_or-set_other, get_or-take, get_or-drop, length-take-le, get_or-append-add}
+use Rattle.std.specs.Int.{to_le_bytes, w64}
 use borrow.Author.Tests.{lt-ltb, le-ltb}
 use Rattle.builder.specs.Rows.{Row, three, set_bytes, row_bytes, join}
 
@@ -45,24 +45,47 @@ row_more b₀ b b' at k v f r room is e = rw is (record {
 pub row_same : (b b' : List ℕ) (at l : ℕ) (f g : ℕ → ℕ) → Row b b' at l f → ((k : ℕ) → k < l → f k ≡ g k) → Row b b' at l g
 row_same b b' at l f g r h = record { long = r.long; inside = λ k b. r.inside k b ∙ h k b; outside = r.outside }
 
--- three bytes, by three stores
-pub row_three : (b : List ℕ) (at x y z : ℕ) → at + 3 ≤ length b → Row b (set (set (set b at x) (at + 1) y) (at + 2) z) at 3 (three x y z)
-row_three b at x y z room =
-    let e : at + 0 ≡ at = omega arith in
-    let r₁ = row_more b b (set b at x) at 0 x (three x y z) (row_none b at (three x y z)) (omega arith) (ap (λ (i : ℕ). set b i x) (sym e)) refl in
-    let r₂ = row_more b (set b at x) (set (set b at x) (at + 1) y) at 1 y (three x y z) r₁ (rw (length-set b at x) (omega arith)) refl refl in
-    row_more b (set (set b at x) (at + 1) y) _ at 2 z (three x y z) r₂ (rw (length-set (set b at x) (at + 1) y, length-set b at x) (omega arith)) refl refl
+-- a row that is copied to its place
+pub row_put : (b ys : List ℕ) (at k n : ℕ) (f : ℕ → ℕ) → k ≡ n → length ys ≡ n → at + n ≤ length b → ((j : ℕ) → j < n → get_or ys j 0 ≡ f j) → Row b (take at b ++ (ys ++ drop k (drop at b))) at n f
+row_put b ys at k n f is long room same = record {
+  long = simp (length-append, length-take, length-drop) (omega arith);
+  inside = λ j l. let e : at + j ≡ length (take at b) + j = omega (arith, front) in
+      ap (λ (i : ℕ). get_or put i 0) e ∙ get_or-append-add (take at b) (ys ++ drop k (drop at b)) j 0 ∙ get_or-append ys (drop k (drop at b)) 0 j (omega arith) ∙ same j l;
+  outside = λ i o. elim o [
+    | inl x ↦ get_or-append (take at b) (ys ++ drop k (drop at b)) 0 i (omega (arith, front)) ∙ get_or-take at b i 0 x
+    | inr x ↦ after i x
+  ];
+}
+  where
+    put : List ℕ
+    put = take at b ++ (ys ++ drop k (drop at b))
 
--- the bytes of a set, one division at a time
-pub set_none : (set : ℕ) → set ≡ set / 256 ^ 0
-set_none set = sym (div-one set)
+    front : length (take at b) ≡ at
+    front = length-take-le at b (omega arith)
 
-pub set_next : (set rest k : ℕ) → rest ≡ set / 256 ^ k → rest / 256 ≡ set / 256 ^ (k + 1)
-set_next set rest k e = rw (e, add-one k, pow-suc 256 k) (div-div-eq-div-mul set (256 ^ k) 256)
+    after : (i : ℕ) → at + n ≤ i → get_or put i 0 ≡ get_or b i 0
+    after i x =
+        let j = i - at - n in
+        let e : i ≡ length (take at b) + (length ys + j) = omega (arith, front) in
+        let e' : at + (k + j) ≡ i = omega arith in
+        ap (λ (i : ℕ). get_or put i 0) e ∙ get_or-append-add (take at b) (ys ++ drop k (drop at b)) (length ys + j) 0 ∙ get_or-append-add ys (drop k (drop at b)) j 0
+        ∙ get_or-drop k (drop at b) j 0 ∙ get_or-drop at b (k + j) 0 ∙ ap (λ (i : ℕ). get_or b i 0) e'
 
-pub set_byte_lem : (set rest k : ℕ) → rest ≡ set / 256 ^ k → rest % 256 ≡ set_bytes set k
+-- the bytes of a set
+pub row_set : (b ys : List ℕ) (at k set : ℕ) → k ≡ 8 → at + 8 ≤ length b → ys ≡ to_le_bytes w64 set → Row b (take at b ++ (ys ++ drop k (drop at b))) at 8 (set_bytes set)
 unfolding set_bytes
-set_byte_lem set rest k e = ap (λ (x : ℕ). x % 256) e
+row_set b ys at k set is room e = row_put b ys at k 8 (set_bytes set) is (ap length e) room (λ j l. ap (λ (x : List ℕ). get_or x j 0) e ∙ each j l)
+  where
+    each : (j : ℕ) → j < 8 → get_or (to_le_bytes w64 set) j 0 ≡ set / 256 ^ j % 256
+    each zero l = ap (λ (x : ℕ). x % 256) (sym (div-one set))
+    each (suc zero) l = refl
+    each (suc (suc zero)) l = refl
+    each (suc (suc (suc zero))) l = refl
+    each (suc (suc (suc (suc zero)))) l = refl
+    each (suc (suc (suc (suc (suc zero))))) l = refl
+    each (suc (suc (suc (suc (suc (suc zero)))))) l = refl
+    each (suc (suc (suc (suc (suc (suc (suc zero))))))) l = refl
+    each (suc (suc (suc (suc (suc (suc (suc (suc j)))))))) l = absurd (omega arith)
 
 -- the commands of the instruments, one at a time
 pub rows_more : (b₀ b b' : List ℕ) (at g byte : ℕ) (table : List ℕ) → Row b₀ b at (3 * g) (row_bytes byte table) → Row b b' (at + 3 * g) 3 (three byte g (get_or table g 0)) → Row b₀ b' at (3 * (g + 1)) (row_bytes byte table)

@@ -18,7 +18,7 @@ use Rattle.matroid.proofs.Rank.{worth_same}
 use Rattle.sets.specs.Bits.{bit}
 use Rattle.plan.specs.declared.Reading.{Reading}
 use Rattle.plan.specs.Valid.{Valid}
-use Rattle.sets.proofs.Lists.{get_d_any}
+use Rattle.std.proofs.lemmas.List.{get_or_default}
 use Rattle.kinds.specs.declared.Valuation.{Valuation}
 use Rattle.kinds.specs.Valuations.{matroids}
 use Rattle.plan.specs.Teams.{valuations_of, team_matroid, present, present_count}
@@ -128,7 +128,7 @@ module _ (r : Reading) (valid : Valid r) (row : List Valuation) (same : row ≡ 
   -- ---- the fields
 
   holder_at_lem : (g : ℕ) → g < m → holder_at sheet g ≡ D g
-  holder_at_lem g l = let long = hold.owner_long in let small = valid.small in give_at g l 2 (omega arith) ∙ get_d_any d.holding.owner g 0 255 (omega arith)
+  holder_at_lem g l = let long = hold.owner_long in let small = valid.small in give_at g l 2 (omega arith) ∙ get_or_default d.holding.owner g 0 255 (omega arith)
 
   part_is : (t : ℕ) → t < n → (g : ℕ) → g < m → part_at m sheet t g ≡ get_or (get_or d.shares t no_share).part g 0
   part_is t l g b = part_at_lem t l g b 2 (omega arith)

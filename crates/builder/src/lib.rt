@@ -4,30 +4,22 @@
 ghost use Rattle.std.specs.Prelude.{◌≡◌};
 ghost use Rattle.builder.specs.Build.{build_answer, Answered, BuildTold};
 
+use command::refusal::{Refusal, refuse};
 use exchange::Agents;
 
 pub mod write;
 
-// What Build answers: a refusal's number and place, or how many bytes the sheet has.
-#[derive(Clone, Copy)]
-pub enum Built {
-    Refused(usize, usize),
-    Wrote(usize),
-}
-
-// Builds a sheet for a plan at the start of a lent buffer.
-pub fn build(plan: &[u8], buffer: &mut [u8]) -> Built
+// Builds a sheet for a plan at the start of a lent buffer, and answers how many bytes it has.
+pub fn build(plan: &[u8], buffer: &mut [u8]) -> Result<usize, Refusal>
     ensures answer { result ≡ build_answer plan.now buffer.old }
     ensures bytes { Answered plan.now buffer.old buffer.new result }
     ensures told { BuildTold plan.now buffer.old result }
 {
     let r = plan::read(plan);
-    if r.refusal != 0 {
-        return Built::Refused(r.refusal, r.place);
-    }
+    r.accepted()?;
     let long = sheet::length(r.m, r.n);
     if buffer.len() < long {
-        return Built::Refused(10, long);
+        return refuse(10, long);
     }
     let valuations = plan::valuations_of(r);
     let agents = Agents {
@@ -39,5 +31,5 @@ pub fn build(plan: &[u8], buffer: &mut [u8]) -> Built
     let h = d.holding;
     let total = h.total() as u8;
     write::write_sheet(buffer, r.m, r.n, total, d);
-    Built::Wrote(long)
+    Ok(long)
 }

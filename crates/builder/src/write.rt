@@ -1,4 +1,5 @@
 // Writing a sheet: rows of bytes at offsets of a lent buffer.
+// Kept (point 5): m ≤ 64 and n ≤ 12 stand in each contract, as in `sheet`.
 ghost use Rattle.std.specs.Prelude.{◌+◌, ◌*◌, ◌≤◌, length};
 ghost use Rattle.builder.specs.Rows.{Row, three, set_bytes, row_bytes, page_bytes, PagesRow, Written};
 ghost use Rattle.sheet.specs.Layout.{length_of, share_start};
@@ -11,9 +12,7 @@ fn write_three(buffer: &mut [u8], at: usize, a: u8, b: u8, c: u8)
     requires { at + 3 ≤ length buffer.old }
     ensures { Row buffer.old buffer.new at 3 (three a b c) }
 {
-    buffer[at] = a;
-    buffer[at + 1] = b;
-    buffer[at + 2] = c;
+    buffer[at..at + 3].copy_from_slice(&[a, b, c]);
 }
 
 // The eight bytes of a set, low byte first.
@@ -21,11 +20,7 @@ fn write_set(buffer: &mut [u8], at: usize, set: u64)
     requires { at + 8 ≤ length buffer.old }
     ensures { Row buffer.old buffer.new at 8 (set_bytes set) }
 {
-    let mut rest = set;
-    for k in 0..8usize {
-        buffer[at + k] = (rest % 256) as u8;
-        rest = rest / 256;
-    }
+    buffer[at..at + 8].copy_from_slice(&set.to_le_bytes());
 }
 
 // A command of three bytes for each of m instruments: its byte, the instrument, and what a table names.
@@ -33,8 +28,8 @@ fn write_rows(buffer: &mut [u8], at: usize, m: usize, byte: u8, table: [u8; 64])
     requires { (at + 3 * m ≤ length buffer.old) × (m ≤ 64) }
     ensures { Row buffer.old buffer.new at (3 * m) (row_bytes byte table) }
 {
-    for g in 0..m {
-        write_three(buffer, at + 3 * g, byte, g as u8, table[g]);
+    for (g, name) in table[..m].iter().enumerate() {
+        write_three(buffer, at + 3 * g, byte, g as u8, *name);
     }
 }
 
@@ -62,10 +57,8 @@ fn write_pages(buffer: &mut [u8], m: usize, n: usize, shares: [Shared; 12])
     requires { (share_start m n ≤ length buffer.old) × (m ≤ 64) × (n ≤ 12) }
     ensures { PagesRow buffer.old buffer.new m n shares }
 {
-    for t in 0..n {
-        let one = shares[t];
-        let at = sheet::share_start(m, t);
-        write_page(buffer, at, m, t as u8, one);
+    for (t, one) in shares[..n].iter().enumerate() {
+        write_page(buffer, sheet::share_start(m, t), m, t as u8, *one);
     }
 }
 

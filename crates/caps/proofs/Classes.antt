@@ -21,7 +21,7 @@ use Rattle.sets.proofs.Below.{bit_none}
 use Rattle.caps.specs.Caps.{count}
 use Rattle.caps.specs.Partition.{class_in}
 use Rattle.caps.specs.Counts.{Counts, capped_sum, HasRoom, Room}
-use Rattle.sets.proofs.Members.{Rests, run}
+use Rattle.sets.proofs.Through.{Rests, run}
 
 -- ---- the counts
 

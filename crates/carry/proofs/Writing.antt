@@ -1,13 +1,13 @@
 -- What is written in a row is written in its team.
 use Prim.Native.Nat.{ℕ, zero, suc, ◌+◌, ◌*◌, ◌≤◌, ◌<◌}
 use mathlib.Core.Path.{◌≡◌, refl, sym, ap, ◌∙◌}
-use mathlib.Core.List.{List, [], ◌∷◌, ◌++◌, append_assoc}
+use mathlib.Core.List.{List, [], ◌∷◌, ◌++◌}
 use native.Mathlib.Omega.{arith}
 use lib.ListN.{length, get_or, take, drop, set}
-use lib.Seq.{get_or-set_other, set_out, length-take-le, take-append_seam, drop_at, sets, sets-eq}
+use lib.Seq.{get_or-set_other, set_out}
 use Rattle.command.specs.declared.Command.TheVariants.{Class, Days}
 use Rattle.row.specs.Row.{part, row_team}
-use Rattle.row.proofs.Parts.{part_length, part_set, part_before, part_after}
+use Rattle.row.proofs.Parts.{part_length, part_at_lem, part_is, part_set, part_before, part_after, put, put_length, put_part, put_before}
 use Rattle.carry.specs.Carry.{named_team, changed_team}
 
 -- ---- a byte in each of several tables
@@ -39,15 +39,6 @@ stores_table l at i (v ∷ vs) (suc k) b fits =
     let e : at + 64 * suc k ≡ at + 64 + 64 * k = omega arith in
     rw e (stores_table (set l (at + i) v) (at + 64) i vs k b (omega arith)
     ∙ ap (λ (x : List ℕ). set x i (get_or vs k 0)) (part_before l (at + 64 + 64 * k) 64 (at + i) v (omega arith)))
-
--- bytes written one after another are the part that they make
-sets_part : (l : List ℕ) (at : ℕ) (vs : List ℕ) → at + length vs ≤ length l → part (sets l at vs) at (length vs) ≡ vs
-unfolding part
-sets_part l at vs fits =
-    let rest = drop (at + length vs) l in
-    ap (λ (x : List ℕ). take (length vs) (drop at x)) (sets-eq vs l at fits ∙ append_assoc (take at l) vs rest)
-    ∙ ap (take (length vs)) (drop_at (take at l) (vs ++ rest) at (length-take-le at l (omega arith)))
-    ∙ take-append_seam vs rest
 
 module _ (row : List ℕ) (i : ℕ) where
   -- a cap that is written in a row is written in the team
@@ -86,21 +77,26 @@ module _ (row : List ℕ) (i : ℕ) where
 
 module _ (row : List ℕ) (long : length row ≡ 343) where
   -- a command's byte and operands that are written at the end of a row are the team's days
-  pub row_days : (a b c d : ℕ) → row_team (stores row 1 338 0 (11 ∷ a ∷ b ∷ c ∷ d ∷ [])) ≡ changed_team 0 (row_team row) (Days a b c d)
+  pub row_days : (ys : List ℕ) (a b c d : ℕ) → ys ≡ 11 ∷ a ∷ b ∷ c ∷ d ∷ [] → row_team (take 338 row ++ (ys ++ drop 5 (drop 338 row))) ≡ changed_team 0 (row_team row) (Days a b c d)
   unfolding row_team changed_team
-  row_days a b c d =
-      let vs : List ℕ = 11 ∷ a ∷ b ∷ c ∷ d ∷ [] in
-      let table : (at many : ℕ) → at + many ≤ 338 → part (stores row 1 338 0 vs) at many ≡ part row at many = stores_before row 1 338 0 vs in
+  row_days ys a b c d is =
+      let fits : 338 + 5 ≤ length row = omega arith in
+      let five : length ys ≡ 5 = ap length is in
+      let wide = put_length row 338 5 fits ys five in
+      let row' = put row 338 5 fits ys five in
+      let table : (at many : ℕ) → at + many ≤ 338 → part row' at many ≡ part row at many =
+      λ at many low.
+      part_is row at many (part row' at many) (omega arith) (part_length row' at many (omega (arith, wide))) (λ i b. part_at_lem row' at many i 0 b ∙ put_before row 338 5 fits ys five (at + i) 0 (omega arith)) in
       λ j. record {
-        kind = stores_low row 1 338 0 vs 0 0 (omega arith) j;
-        channels = stores_low row 1 338 0 vs 1 0 (omega arith) j;
+        kind = put_before row 338 5 fits ys five 0 0 (omega arith) j;
+        channels = put_before row 338 5 fits ys five 1 0 (omega arith) j;
         cap = table 2 16 (omega arith) j;
         named = table 18 64 (omega arith) j;
         first = table 82 64 (omega arith) j;
         second = table 146 64 (omega arith) j;
         third = table 210 64 (omega arith) j;
         fourth = table 274 64 (omega arith) j;
-        days = sets_part row 338 vs (omega arith) j;
+        days = (put_part row 338 5 fits ys five ∙ is) j;
       }
 
 -- an operand past the end of its table changes nothing

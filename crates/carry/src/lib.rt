@@ -7,7 +7,7 @@ ghost use Rattle.carry.specs.Carry.{start, named_team, row_of, changed_team, cha
 ghost use Rattle.row.specs.Row.{row_team};
 
 use command::{Command, State};
-use sets::wide;
+use team::Kind;
 
 // Nothing has been read yet.
 pub fn nothing() -> State
@@ -26,17 +26,18 @@ fn set_cap(row: &mut [u8], class: u8, cap: u8)
     ensures { row_team row.new ≡ changed_team 0 (row_team row.old) (Class class cap) }
 {
     if class < 16 {
-        row[row::CAP + wide(class)] = cap;
+        row[row::CAP + usize::from(class)] = cap;
     }
 }
 
 // Names an instrument in the open row: the byte of the command, and its operands after the instrument (255 where it has fewer).
+// Kept (point 5): the operands go one by one, as `Command` and `named_team` have them; each goes into a table of its own.
 fn set_named(row: &mut [u8], instrument: u8, command: u8, a: u8, b: u8, c: u8, d: u8)
     requires { length row.old ≡ 343 }
     ensures { row_team row.new ≡ named_team (row_team row.old) instrument command a b c d }
 {
     if instrument < 64 {
-        let i = wide(instrument);
+        let i = usize::from(instrument);
         row[row::NAMED + i] = command;
         row[row::FIRST + i] = a;
         row[row::SECOND + i] = b;
@@ -50,11 +51,7 @@ fn set_days(row: &mut [u8], a: u8, b: u8, c: u8, d: u8)
     requires { length row.old ≡ 343 }
     ensures { row_team row.new ≡ changed_team 0 (row_team row.old) (Days a b c d) }
 {
-    row[row::DAYS] = 11;
-    row[row::DAYS + 1] = a;
-    row[row::DAYS + 2] = b;
-    row[row::DAYS + 3] = c;
-    row[row::DAYS + 4] = d;
+    row[row::DAYS..row::WIDTH].copy_from_slice(&[11, a, b, c, d]);
 }
 
 // The row that a command works on, where n teams have been opened.
@@ -62,39 +59,23 @@ pub fn row_of(n: usize, command: Command) -> usize
     ensures { result ≡ row_of n command }
 {
     match command {
-        Command::Missing => n,
-        Command::Unknown => n,
-        Command::Short => n,
-        Command::Start(_, _) => n,
-        Command::Caps(_) => n,
-        Command::Loops(_) => n,
-        Command::Mounts(_) => n,
-        Command::Class(_, _) => n,
-        Command::Put(_, _) => n,
-        Command::Span(_, _, _) => n,
-        Command::Fit(_, _, _, _, _) => n,
-        Command::Shelf(_, _, _, _, _) => n,
-        Command::Days(_, _, _, _) => n,
         Command::Glue(_) => 13,
-        Command::End => n,
+        _ => n,
     }
 }
 
 // Changes the row that a command works on, where n teams have been opened, this one included. A team that the command opens takes the place of
 // what the row held.
+// Kept (point 1): a row has the bytes of commands, which `changed_team` names by their numbers.
 #[tactic(auto, unfolding(crate::specs::Carry::changed_team))]
 pub fn change(row: &mut [u8], n: usize, command: Command)
     requires { (length row.old ≡ 343) × (n ≤ 12) }
     ensures { row_team row.new ≡ changed_team n (row_team row.old) command }
 {
     match command {
-        Command::Missing => {}
-        Command::Unknown => {}
-        Command::Short => {}
-        Command::Start(_, _) => {}
-        Command::Caps(channels) => row::open(row, 2, channels, 0),
-        Command::Loops(channels) => row::open(row, 3, channels, 255),
-        Command::Mounts(channels) => row::open(row, 8, channels, 255),
+        Command::Caps(channels) => row::open(row, Kind::Caps.into(), channels, 0),
+        Command::Loops(channels) => row::open(row, Kind::Loops.into(), channels, 255),
+        Command::Mounts(channels) => row::open(row, Kind::Mounts.into(), channels, 255),
         Command::Class(class, cap) => set_cap(row, class, cap),
         Command::Put(i, class) => set_named(row, i, 5, class, 255, 255, 255),
         Command::Span(i, a, b) => set_named(row, i, 6, a, b, 255, 255),
@@ -102,7 +83,7 @@ pub fn change(row: &mut [u8], n: usize, command: Command)
         Command::Shelf(i, a, b, c, d) => set_named(row, i, 10, a, b, c, d),
         Command::Days(a, b, c, d) => set_days(row, a, b, c, d),
         Command::Glue(i) => set_named(row, i, n as u8, 255, 255, 255, 255),
-        Command::End => {}
+        _ => {}
     }
 }
 
@@ -111,7 +92,7 @@ fn next_team(mut s: State) -> State
     requires { s.n ≤ 12 }
     ensures { result ≡ changed_state s (Caps 0) }
 {
-    s.n = s.n + 1;
+    s.n += 1;
     s.capped = [false; 16];
     s
 }
@@ -120,7 +101,7 @@ fn next_team(mut s: State) -> State
 fn with_capped(mut s: State, class: u8) -> State
     ensures { result ≡ changed_state s (Class class 0) }
 {
-    let at = class as usize;
+    let at = usize::from(class);
     if at < 16 {
         s.capped[at] = true;
     }
@@ -128,6 +109,7 @@ fn with_capped(mut s: State, class: u8) -> State
 }
 
 // The rest of the state after a command.
+// Kept (point 4): with one arm for the other commands Read takes twice the instructions (decision 41).
 #[tactic(auto, unfolding(crate::specs::Carry::changed_state))]
 pub fn changed_state(mut s: State, command: Command) -> State
     requires { s.n ≤ 12 }
@@ -138,7 +120,7 @@ pub fn changed_state(mut s: State, command: Command) -> State
         Command::Unknown => s,
         Command::Short => s,
         Command::Start(_, m) => {
-            s.m = m as usize;
+            s.m = usize::from(m);
             s
         }
         Command::Caps(_) => next_team(s),

@@ -28,8 +28,9 @@ use Rattle.plan.specs.Read.{read_plan}
 use Rattle.plan.specs.Teams.{team_matroid, present, present_count}
 use Rattle.sheet.specs.Fields.{total_at, holder_at, bound_at, share_at, set_at, part_at}
 use Rattle.sheet.proofs.Forming.{form_passes, passes_form, formed_passes, passes_formed}
-use Rattle.checker.specs.declared.Verdict.{Verdict}
-use Rattle.checker.specs.declared.Verdict.TheVariants.{Accepted, Refused}
+use Rattle.std.proofs.Common.{is_ok}
+use Rattle.command.specs.Refusal.{refuse}
+use Rattle.checker.specs.Verdict.{Verdict, Accepted}
 use Rattle.checker.specs.Rules.{independent, dependent_at, bound_of, total_holds, parts_hold, share_holds, share_test, wrong_share_at, short_at}
 use Rattle.checker.specs.Check.{verdict_of, check_sheet}
 use Rattle.checker.specs.Stated.{Stated}
@@ -59,10 +60,10 @@ passed false b h = refl
 
 -- ---- what is accepted keeps every rule
 
-refused_not : (number place : ℕ) → Accepted ≡ Refused number place → ⊥
-refused_not number place e = let z : ◌≡◌ {A = ℕ} 0 1 = cc in omega arith
+refused_not : (number place : ℕ) → Accepted ≡ refuse number place → ⊥
+refused_not number place e = false≢true (sym (ap is_ok e))
 
-unbroken : (b : Bool) (number place : ℕ) (rest : Verdict) → Accepted ≡ cond b (Refused number place) rest → (b ≡ false) × (Accepted ≡ rest)
+unbroken : (b : Bool) (number place : ℕ) (rest : Verdict) → Accepted ≡ cond b (refuse number place) rest → (b ≡ false) × (Accepted ≡ rest)
 unbroken true number place rest h = absurd (refused_not number place h)
 unbroken false number place rest h = (refl, h)
 

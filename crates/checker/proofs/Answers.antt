@@ -15,9 +15,9 @@ use Rattle.command.proofs.Mapped.{first_mapped}
 use Rattle.sheet.specs.Layout.{page_length, share_start}
 use Rattle.sheet.proofs.Sizes.{length_le, share_inside}
 use Rattle.checker.specs.declared.Stretch.{Stretch}
-use Rattle.checker.specs.declared.Verdict.{Verdict}
-use Rattle.checker.specs.declared.Verdict.TheVariants.{Accepted, Refused}
-use Rattle.checker.specs.Verdict.{verdict_number, verdict_place}
+use Rattle.std.proofs.Common.{Ok, Err}
+use Rattle.command.specs.Refusal.{refuse}
+use Rattle.checker.specs.Verdict.{Verdict, Accepted, verdict_number, verdict_place}
 use Rattle.checker.specs.Check.{sheet_rules, verdict_of, check_sheet}
 use Rattle.checker.specs.Told.{CheckTold}
 use Rattle.checker.specs.Fair.{Fair}
@@ -26,8 +26,8 @@ use Rattle.checker.proofs.Acceptance.{stated, fair}
 
 -- only what is accepted accepts
 accepts_is : (v : Verdict) → accepts v ≡ true → v ≡ Accepted
-accepts_is Accepted e = refl
-accepts_is (Refused number place) e = absurd (false≢true e)
+accepts_is (Ok x) e = refl
+accepts_is (Err x) e = absurd (false≢true e)
 
 module _ (plan sheet : List ℕ) (r : Reading) (is-r : r ≡ read_plan plan) where
   -- Check
@@ -41,8 +41,8 @@ module _ (plan sheet : List ℕ) (r : Reading) (is-r : r ≡ read_plan plan) whe
   pub check_told : (v : Verdict) → v ≡ verdict_of r sheet → CheckTold plan sheet v
   unfolding verdict_of
   check_told v e = record {
-    number = ap verdict_number (check_verdict v e) ∙ first_mapped verdict_number Accepted (sheet_rules Refused (read_plan plan) sheet);
-    place = ap verdict_place (check_verdict v e) ∙ first_mapped verdict_place Accepted (sheet_rules Refused (read_plan plan) sheet);
+    number = ap verdict_number (check_verdict v e) ∙ first_mapped verdict_number Accepted (sheet_rules refuse (read_plan plan) sheet);
+    place = ap verdict_place (check_verdict v e) ∙ first_mapped verdict_place Accepted (sheet_rules refuse (read_plan plan) sheet);
   }
 
   -- Page
@@ -93,8 +93,8 @@ stretch_inside plan sheet t s is = subst (Inside sheet) (sym is) (go (ltb t r.n)
     go : (c : Bool) → ltb t r.n ≡ c → (v : Verdict) → v ≡ verdict_of r sheet
         → Inside sheet (cond (c && accepts v) (from_share r.m t) empty_stretch)
     go false e v is-v = (omega arith, omega arith, omega arith)
-    go true e (Refused number place) is-v = (omega arith, omega arith, omega arith)
-    go true e Accepted is-v =
+    go true e (Err x) is-v = (omega arith, omega arith, omega arith)
+    go true e (Ok x) is-v =
         let facts = stated r sheet is-v in
         let long = facts.long in
         let valid = valid_reading plan r refl facts.read in

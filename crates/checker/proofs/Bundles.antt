@@ -5,7 +5,8 @@ use mathlib.Core.Bool.{true, false, false≢true}
 use mathlib.Core.List.{List}
 use native.Mathlib.Omega.{arith}
 use lib.Dec.{T, eqb, ltb, lt→ltb}
-use lib.ListN.{length, get_or}
+use lib.ListN.{length, get_or, take}
+use lib.Seq.{get_or-take}
 use Rattle.matroid.specs.Taut.{both, and_right}
 use Rattle.matroid.specs.Decide.{is_yes}
 use Rattle.matroid.specs.Set.{Set, size}
@@ -15,7 +16,7 @@ use Rattle.matroid.proofs.Sets.{size_le}
 use Rattle.matroid.proofs.Rank.{worth_same, worth_indep, indep_worth, worth_le_size}
 use Rattle.sets.specs.Bits.{bit}
 use Rattle.sets.specs.Bundles.{Bundles}
-use Rattle.sets.proofs.Lists.{get_d_any}
+use Rattle.std.proofs.lemmas.List.{get_or_default}
 use Rattle.kinds.specs.declared.Valuation.{Valuation}
 use Rattle.kinds.specs.Valuations.{matroid_of, matroids, blank_valuation}
 use Rattle.plan.specs.declared.Reading.{Reading}
@@ -71,7 +72,11 @@ module _ {m : ℕ} (M : Matroid m) (A : Set) where
 
 -- an entry of twelve valuations, as the code reads it, has the matroid of that team
 pub agent_at : (m : ℕ) (row : List Valuation) (t : ℕ) (d : Valuation) → length row ≡ 12 → t < 12 → ◌≡◌ {A = Matroid m} (matroid_of m (get_or row t d)) (matroids m row t)
-agent_at m row t d long l = ap (matroid_of m) (get_d_any row t d blank_valuation (omega arith))
+agent_at m row t d long l = ap (matroid_of m) (get_or_default row t d blank_valuation (omega arith))
+
+-- and so has an entry of the first n of them
+pub agent_taken : (m n : ℕ) (row : List Valuation) (t : ℕ) (d : Valuation) → length row ≡ 12 → n ≤ 12 → t < n → ◌≡◌ {A = Matroid m} (matroid_of m (get_or (take n row) t d)) (matroids m row t)
+agent_taken m n row t d long few l = ap (matroid_of m) (get_or-take n row t d l) ∙ agent_at m row t d long (omega arith)
 
 -- the matroids of a plan's valuations are those of its teams
 pub agents_are : (r : Reading) (row : List Valuation) → r.n ≤ 12 → row ≡ valuations_of r → ◌≡◌ {A = ℕ → Matroid r.m} (matroids r.m row) (team_matroid r)

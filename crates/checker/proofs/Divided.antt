@@ -1,13 +1,18 @@
 -- The loops over the division: the lowest bundle that is not independent, what is given, and the bound.
 use Prim.Native.Nat.{ℕ, zero, suc, ◌+◌, ◌*◌, ◌≤◌, ◌<◌}
-use mathlib.Core.Path.{◌≡◌, refl, sym, ap, ◌∙◌, subst}
+use mathlib.Core.Path.{◌≡◌, refl, sym, ap, ap₂, ◌∙◌, subst}
 use mathlib.Core.Bool.{true}
 use mathlib.Core.Logic.{◌≢◌}
 use mathlib.Core.List.{List}
 use native.Mathlib.Omega.{arith}
 use native.Mathlib.Numerals.{add-one}
 use borrow.Author.Count.{below_more}
-use lib.ListN.{get_or}
+use lib.ListN.{length, take, get_or}
+use Rattle.std.proofs.Common.{Option, MatchOption, Some, None, length-take, get_or-take}
+use Rattle.std.specs.List.{AllWithin, HoldsAt, zip}
+use Rattle.std.proofs.lemmas.Slice.Zip.{length-zip, get_or-zip}
+use Rattle.kinds.specs.declared.Valuation.{Valuation}
+use Rattle.kinds.specs.Valuations.{matroid_of, matroids, blank_valuation}
 use Rattle.matroid.specs.Set.{Set, ◌∩◌, complement, size}
 use Rattle.matroid.specs.SetLaws.{within_refl, inter_left, inter_most, size_same}
 use Rattle.matroid.specs.Sum.{sum}
@@ -18,8 +23,8 @@ use Rattle.matroid.proofs.Sets.{size_le}
 use Rattle.matroid.proofs.Sums.{sum_same}
 use Rattle.sets.specs.Bits.{bit}
 use Rattle.sets.specs.Bundles.{Bundles}
-use Rattle.checker.specs.Rules.{independent, dependent_at, bound_of}
-use Rattle.checker.proofs.Lowest.{lowest_at, lowest_none}
+use Rattle.checker.specs.Rules.{found, independent, dependent_at, bound_of}
+use Rattle.checker.proofs.Lowest.{lowest_at, lowest_none, found_some, found_none}
 use Rattle.checker.proofs.Bundles.{counted, counted_le, worth_word, size_word, worth_small, independent_yes, independent_no}
 
 -- ---- 13
@@ -56,6 +61,37 @@ module _ (m n : ℕ) (M : ℕ → Matroid m) (words : List ℕ) (t : ℕ) (h : I
   indep_done m64 n12 g D w =
       lowest_none n (λ t. independent (M t) (bundle D t))
       (λ k b. independent_yes (M k) (bundle D k) (sym (worth_word m D words w k (omega arith) (M k)) ∙ h.at k (omega arith) ∙ size_word m D words w k (omega arith) m64))
+
+-- the first place where the test fails is the team that is looked for
+module _ (m n : ℕ) (row : List Valuation) (words : List ℕ) (long-row : length row ≡ 12) (long-words : length words ≡ 12) (m64 : m ≤ 64) (n12 : n ≤ 12) where
+  abbrev pairs : List (Valuation × ℕ)
+  pairs = zip (take n row) (take n words)
+
+  long : length pairs ≡ n
+  long = length-zip (take n row) (take n words) ∙ simp length-take (omega arith)
+
+  pair : (t : ℕ) → t < n → get_or pairs t (blank_valuation, 0) ≡ (get_or row t blank_valuation, get_or words t 0)
+  pair t l =
+      get_or-zip (take n row) (take n words) t (blank_valuation, 0) (simp length-take (omega arith)) (simp length-take (omega arith))
+      ∙ ap₂ (λ (v : Valuation) (w : ℕ). (v, w)) (get_or-take n row t blank_valuation l) (get_or-take n words t 0 l)
+
+  abbrev Passes : Valuation × ℕ → Type 0
+  Passes p = worth (matroid_of m p.0) (bit p.1) ≡ size 64 (bit p.1)
+
+  passed : (t : ℕ) → ((k : ℕ) → k < t → k < n) → ((k : ℕ) → k < t → Passes (get_or pairs k (blank_valuation, 0))) → Independent (matroids m row) words t
+  unfolding counted
+  passed t inside all = record { at = λ k l. rw (pair k (inside k l)) at (all k l) }
+
+  pub dependent_first : (r : Option ℕ)
+      → MatchOption r (AllWithin Passes pairs 0 (length pairs)) (λ i. (i < length pairs) × HoldsAt (λ (p : Valuation × ℕ). worth (matroid_of m p.0) (bit p.1) ≢ size 64 (bit p.1)) pairs i × AllWithin Passes pairs 0 i)
+      → (D : ℕ → ℕ) → Bundles m D words → r ≡ found n (dependent_at n (matroids m row) D)
+  dependent_first None all D w =
+      found_none (indep_done m n (matroids m row) words n (passed n (λ k l. l) (λ k l. all k (blank_valuation, 0) (omega arith) (let e = long in omega arith))) m64 n12 (omega arith) D w)
+  dependent_first (Some i) (l, fails, before) D w =
+      let below : i < n = let e = long in omega arith in
+      found_some below
+      (indep_stop m n (matroids m row) words i (passed i (λ k b. omega arith) (λ k b. before k (blank_valuation, 0) (omega arith) b))
+      (matroid_of m (get_or row i blank_valuation)) refl _ _ refl refl m64 n12 below (rw (pair i below) at (fails (blank_valuation, 0))) D w)
 
 -- ---- the number of given instruments
 

@@ -4,7 +4,11 @@ use mathlib.Core.Path.{◌≡◌, refl, sym, ap, ap₂, ◌∙◌}
 use mathlib.Core.Bool.{Bool, true, false, ◌&&◌, cond, false≢true, and-false}
 use native.Mathlib.Omega.{arith}
 use native.Mathlib.Decide.{ℕ_discrete}
+use lib.Dec.{ltb}
+use borrow.Author.Tests.{lt-ltb, le-ltb, ltb-true, ltb-false}
+use Rattle.std.proofs.Common.{Option, Some, None, is_some}
 use Rattle.checker.specs.Tests.{every, lowest_failing}
+use Rattle.checker.specs.Rules.{found}
 
 -- the first failure is the lowest
 pub lowest_at : (n : ℕ) (test : ℕ → Bool) (t : ℕ) → t < n → ((k : ℕ) → k < t → test k ≡ true) → test t ≡ false → t ≡ lowest_failing n test
@@ -58,3 +62,24 @@ pub every_same : (n : ℕ) (f g : ℕ → Bool) → ((k : ℕ) → k < n → f k
 unfolding every
 every_same zero f g h = refl
 every_same (suc n) f g h = ap₂ (λ (a b : Bool). a && b) (every_same n f g (λ k l. h k (omega arith))) (h n (omega arith))
+
+-- what is found is the lowest, and below n; nothing is found where the search comes to n
+pub found_some : {n t d : ℕ} → t < n → t ≡ d → Some t ≡ found n d
+found_some {n} {t} {d} l e = ap Some e ∙ rw (lt-ltb d n (omega arith)) refl
+
+pub found_none : {n d : ℕ} → n ≡ d → None ≡ found n d
+found_none {n} {d} e = rw (le-ltb d n (omega arith)) refl
+
+pub found_is : {o : Option ℕ} {n d t : ℕ} → o ≡ found n d → o ≡ Some t → (t < n) × (t ≡ d)
+found_is {o} {n} {d} {t} is e = go (ltb d n) refl (sym e ∙ is)
+  where
+    go : (b : Bool) → ltb d n ≡ b → Some t ≡ cond b (Some d) None → (t < n) × (t ≡ d)
+    go true l f = let same : t ≡ d = ap (λ (o : Option ℕ). elim o [ Some x ↦ x | None ↦ 0 ]) f in let below = ltb-true d n l in (omega arith, same)
+    go false l f = absurd (false≢true (sym (ap is_some f)))
+
+pub found_not : {o : Option ℕ} {n d : ℕ} → o ≡ found n d → o ≡ None → n ≤ d
+found_not {o} {n} {d} is e = go (ltb d n) refl (sym e ∙ is)
+  where
+    go : (b : Bool) → ltb d n ≡ b → None ≡ cond b (Some d) None → n ≤ d
+    go true l f = absurd (false≢true (ap is_some f))
+    go false l f = ltb-false d n l

@@ -16,7 +16,7 @@ use Rattle.plan.proofs.Table.{worth_in, alike, worth_alike, appendix_d, appendix
 use Rattle.sheet.specs.Layout.{length_of, share_start}
 use Rattle.sheet.specs.Fields.{number_at, holder_at, part_at}
 use Rattle.sheet.specs.Form.{set, form, first_fault}
-use Rattle.checker.specs.declared.Verdict.TheVariants.{Refused}
+use Rattle.command.specs.Refusal.{refuse}
 use Rattle.checker.specs.Tests.{every, lowest_failing}
 use Rattle.checker.specs.Rules.{independent, dependent_at, bound_of, total_holds, parts_hold, share_holds, share_test, wrong_share_at, short_at}
 use Rattle.checker.specs.Check.{verdict_of, check_sheet}
@@ -92,10 +92,10 @@ first_short : 0 ≡ short_at 6 2 appendix_d_sheet
 unfolding short_at lowest_failing share_start
 first_short = refl
 
-pub appendix_d_check : check_sheet appendix_d appendix_d_sheet ≡ Refused 16 0
+pub appendix_d_check : check_sheet appendix_d appendix_d_sheet ≡ refuse 16 0
 unfolding length_of
 appendix_d_check =
     ap (λ (x : Reading). verdict_of x appendix_d_sheet) is-r
     ∙ sym
-    (judge_rest r appendix_d_sheet refl 90 refl refl (present r) refl 90 passes (omega arith) (Refused 16 0)
+    (judge_rest r appendix_d_sheet refl 90 refl refl (present r) refl 90 passes (omega arith) (refuse 16 0)
     (weigh_16 r appendix_d_sheet (team_matroid r) refl 2 none_dependent (omega arith) total_holds_lem (present r) refl 2 none_wrong (omega arith) 0 first_short (omega arith)))

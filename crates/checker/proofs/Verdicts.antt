@@ -1,27 +1,30 @@
 -- The rules one after the other: what each answer of the code comes to.
 use Prim.Native.Nat.{ℕ, ◌+◌, ◌-◌, ◌*◌, ◌≤◌, ◌<◌}
 use mathlib.Core.Path.{◌≡◌, refl, sym, ap, ◌∙◌}
-use mathlib.Core.Bool.{Bool, true, false, not, cond, and-false}
+use mathlib.Core.Bool.{Bool, true, false, not, cond, and-false, false≢true}
 use mathlib.Core.Logic.{◌≢◌}
 use mathlib.Core.List.{List, [], ◌∷◌}
 use native.Mathlib.Omega.{arith}
 use lib.Dec.{eqb, ltb}
 use lib.ListN.{length, get_or, take, drop, length-take, length-drop}
 use lib.Seq.{get_or-take, get_or-drop}
-use borrow.Author.Tests.{lt-ltb, le-ltb, eq-eqb, ne_eqb}
+use borrow.Author.Tests.{lt-ltb, le-ltb, eq-eqb, ne_eqb, eqb-false}
+use Rattle.std.proofs.Common.{Ok, Err, is_ok}
 use Rattle.matroid.specs.Set.{Set, size}
 use Rattle.matroid.specs.Matroid.{Matroid}
 use Rattle.matroid.specs.Division.{held}
 use Rattle.sets.specs.Bundles.{Bundles}
 use Rattle.plan.specs.declared.Reading.{Reading}
+use Rattle.plan.specs.Read.{acceptance}
 use Rattle.plan.specs.Teams.{team_matroid, present}
+use Rattle.command.specs.declared.refusal.Refusal.{Refusal}
 use Rattle.sheet.specs.Layout.{length_of}
 use Rattle.sheet.specs.Fields.{word_at, total_at, holder_at, bound_at}
 use Rattle.sheet.specs.Form.{form, first_fault}
 use Rattle.sheet.specs.Named.{named}
 use Rattle.sheet.proofs.Naming.{words_agree}
-use Rattle.checker.specs.declared.Verdict.{Verdict}
-use Rattle.checker.specs.declared.Verdict.TheVariants.{Accepted, Refused}
+use Rattle.command.specs.Refusal.{refuse}
+use Rattle.checker.specs.Verdict.{Verdict, Accepted}
 use Rattle.command.specs.Rule.{rule, first_broken}
 use Rattle.checker.specs.Rules.{dependent_at, bound_of, total_holds, wrong_share_at, short_at}
 use Rattle.checker.specs.Check.{division_rules, verdict_of}
@@ -82,15 +85,15 @@ module _ (r : Reading) (sheet : List ℕ) (M : ℕ → Matroid r.m) (is-M : ◌�
   by_total : (b : Bool) → total_holds r.n M sheet ≡ b → total_holds r.n (team_matroid r) sheet ≡ b
   by_total b e = sym (ap (λ (x : ℕ → Matroid r.m). total_holds r.n x sheet) is-M) ∙ e
 
-  pub weigh_13 : d < r.n → Refused 13 d ≡ first_broken Accepted (division_rules Refused r sheet)
-  weigh_13 l = ap (Refused 13) is_d ∙ broken _ _ _ (lt-ltb (dependent_at r.n (team_matroid r) (holder_at sheet)) r.n (omega (arith, is_d)))
+  pub weigh_13 : d < r.n → refuse 13 d ≡ first_broken Accepted (division_rules refuse r sheet)
+  weigh_13 l = ap (refuse 13) is_d ∙ broken _ _ _ (lt-ltb (dependent_at r.n (team_matroid r) (holder_at sheet)) r.n (omega (arith, is_d)))
 
   module _ (kept-13 : r.n ≤ d) where
-    past_13 : (v : Verdict) → v ≡ first_broken Accepted (rule (not (total_holds r.n (team_matroid r) sheet)) (Refused 14 0) ∷ rule (ltb (wrong_share_at r.n (present r) (team_matroid r) sheet) r.n) (Refused 15 (wrong_share_at r.n (present r) (team_matroid r) sheet)) ∷ rule (ltb (short_at r.m r.n sheet) r.n) (Refused 16 (short_at r.m r.n sheet)) ∷ []) → v ≡ first_broken Accepted (division_rules Refused r sheet)
+    past_13 : (v : Verdict) → v ≡ first_broken Accepted (rule (not (total_holds r.n (team_matroid r) sheet)) (refuse 14 0) ∷ rule (ltb (wrong_share_at r.n (present r) (team_matroid r) sheet) r.n) (refuse 15 (wrong_share_at r.n (present r) (team_matroid r) sheet)) ∷ rule (ltb (short_at r.m r.n sheet) r.n) (refuse 16 (short_at r.m r.n sheet)) ∷ []) → v ≡ first_broken Accepted (division_rules refuse r sheet)
     past_13 v h = kept _ _ _ v (le-ltb (dependent_at r.n (team_matroid r) (holder_at sheet)) r.n (omega (arith, is_d))) h
 
-    pub weigh_14 : total_holds r.n M sheet ≡ false → Refused 14 0 ≡ first_broken Accepted (division_rules Refused r sheet)
-    weigh_14 e = past_13 (Refused 14 0) (broken _ _ _ (ap not (by_total false e)))
+    pub weigh_14 : total_holds r.n M sheet ≡ false → refuse 14 0 ≡ first_broken Accepted (division_rules refuse r sheet)
+    weigh_14 e = past_13 (refuse 14 0) (broken _ _ _ (ap not (by_total false e)))
 
     module _ (holds : total_holds r.n M sheet ≡ true) (here : Set) (is-here : here ≡ present r) (w : ℕ) (by-w : w ≡ wrong_share_at r.n here M sheet) where
       kept_14 : total_holds r.n (team_matroid r) sheet ≡ true
@@ -99,44 +102,57 @@ module _ (r : Reading) (sheet : List ℕ) (M : ℕ → Matroid r.m) (is-M : ◌�
       is_w : w ≡ wrong_share_at r.n (present r) (team_matroid r) sheet
       is_w = by-w ∙ ap (λ (x : Set). wrong_share_at r.n x M sheet) is-here ∙ ap (λ (x : ℕ → Matroid r.m). wrong_share_at r.n (present r) x sheet) is-M
 
-      pub weigh_15 : w < r.n → Refused 15 w ≡ first_broken Accepted (division_rules Refused r sheet)
-      weigh_15 l = ap (Refused 15) is_w ∙ past_13 _ (kept _ _ _ _ (ap not kept_14) (broken _ _ _ (lt-ltb (wrong_share_at r.n (present r) (team_matroid r) sheet) r.n (omega (arith, is_w)))))
+      pub weigh_15 : w < r.n → refuse 15 w ≡ first_broken Accepted (division_rules refuse r sheet)
+      weigh_15 l = ap (refuse 15) is_w ∙ past_13 _ (kept _ _ _ _ (ap not kept_14) (broken _ _ _ (lt-ltb (wrong_share_at r.n (present r) (team_matroid r) sheet) r.n (omega (arith, is_w)))))
 
       module _ (kept-15 : r.n ≤ w) (k : ℕ) (is-k : k ≡ short_at r.m r.n sheet) where
-        past_15 : (v : Verdict) → v ≡ first_broken Accepted (rule (ltb (short_at r.m r.n sheet) r.n) (Refused 16 (short_at r.m r.n sheet)) ∷ []) → v ≡ first_broken Accepted (division_rules Refused r sheet)
+        past_15 : (v : Verdict) → v ≡ first_broken Accepted (rule (ltb (short_at r.m r.n sheet) r.n) (refuse 16 (short_at r.m r.n sheet)) ∷ []) → v ≡ first_broken Accepted (division_rules refuse r sheet)
         past_15 v h = past_13 v (kept _ _ _ v (ap not kept_14) (kept _ _ _ v (le-ltb (wrong_share_at r.n (present r) (team_matroid r) sheet) r.n (omega (arith, is_w))) h))
 
-        pub weigh_16 : k < r.n → Refused 16 k ≡ first_broken Accepted (division_rules Refused r sheet)
-        weigh_16 l = ap (Refused 16) is-k ∙ past_15 _ (broken _ _ _ (lt-ltb (short_at r.m r.n sheet) r.n (omega arith)))
+        pub weigh_16 : k < r.n → refuse 16 k ≡ first_broken Accepted (division_rules refuse r sheet)
+        weigh_16 l = ap (refuse 16) is-k ∙ past_15 _ (broken _ _ _ (lt-ltb (short_at r.m r.n sheet) r.n (omega arith)))
 
-        pub weigh_none : r.n ≤ k → Accepted ≡ first_broken Accepted (division_rules Refused r sheet)
+        pub weigh_none : r.n ≤ k → Accepted ≡ first_broken Accepted (division_rules refuse r sheet)
         weigh_none l = past_15 Accepted (kept _ _ _ Accepted (le-ltb (short_at r.m r.n sheet) r.n (omega arith)) refl)
 
 -- ---- Read's refusals, 11 and 12
 
+-- what a reading that is not accepted answers
+pub stopped : (r : Reading) (x : Verdict) (e : Refusal) → x ≡ acceptance r → x ≡ Err e → (r.refusal ≢ 0) × (e ≡ record { number = r.refusal; place = r.place })
+stopped r x e is h = go (eqb r.refusal 0) refl (sym h ∙ is)
+  where
+    -- the refusal of an answer
+    error : Verdict → Refusal
+    error (Ok x) = e
+    error (Err d) = d
+
+    go : (b : Bool) → eqb r.refusal 0 ≡ b → Err e ≡ cond b Accepted (refuse r.refusal r.place) → (r.refusal ≢ 0) × (e ≡ record { number = r.refusal; place = r.place })
+    go true t f = absurd (false≢true (ap is_ok f))
+    go false t f = (eqb-false r.refusal 0 t, ap error f)
+
 module _ (r : Reading) (sheet : List ℕ) where
-  pub judge_read : r.refusal ≢ 0 → Refused r.refusal r.place ≡ verdict_of r sheet
+  pub judge_read : r.refusal ≢ 0 → refuse r.refusal r.place ≡ verdict_of r sheet
   unfolding verdict_of
   judge_read d = broken _ _ _ (ap not (ne_eqb r.refusal 0 d))
 
   module _ (read : r.refusal ≡ 0) (long : ℕ) (is-long : long ≡ length_of r.m r.n) where
-    pub judge_11 : length sheet ≢ long → Refused 11 0 ≡ verdict_of r sheet
+    pub judge_11 : length sheet ≢ long → refuse 11 0 ≡ verdict_of r sheet
     unfolding verdict_of
-    judge_11 d = kept _ _ _ (Refused 11 0) (ap not (eq-eqb r.refusal 0 read)) (broken _ _ _ (ap not (ne_eqb (length sheet) (length_of r.m r.n) (λ e. d (e ∙ sym is-long)))))
+    judge_11 d = kept _ _ _ (refuse 11 0) (ap not (eq-eqb r.refusal 0 read)) (broken _ _ _ (ap not (ne_eqb (length sheet) (length_of r.m r.n) (λ e. d (e ∙ sym is-long)))))
 
     module _ (same : length sheet ≡ long) (here : Set) (is-here : here ≡ present r) (f : ℕ) (by-f : f ≡ first_fault (form r.m r.n here) sheet 0) where
       is_f : f ≡ first_fault (form r.m r.n (present r)) sheet 0
       is_f = by-f ∙ ap (λ (x : Set). first_fault (form r.m r.n x) sheet 0) is-here
 
-      pub judge_12 : f < long → Refused 12 f ≡ verdict_of r sheet
+      pub judge_12 : f < long → refuse 12 f ≡ verdict_of r sheet
       unfolding verdict_of
       judge_12 l =
-          ap (Refused 12) is_f
+          ap (refuse 12) is_f
           ∙ kept _ _ _ _ (ap not (eq-eqb r.refusal 0 read))
           (kept _ _ _ _ (ap not (eq-eqb (length sheet) (length_of r.m r.n) (same ∙ is-long)))
           (broken _ _ _ (lt-ltb (first_fault (form r.m r.n (present r)) sheet 0) (length_of r.m r.n) (omega (arith, is_f)))))
 
-      pub judge_rest : long ≤ f → (v : Verdict) → v ≡ first_broken Accepted (division_rules Refused r sheet) → v ≡ verdict_of r sheet
+      pub judge_rest : long ≤ f → (v : Verdict) → v ≡ first_broken Accepted (division_rules refuse r sheet) → v ≡ verdict_of r sheet
       unfolding verdict_of
       judge_rest l v h =
           kept _ _ _ v (ap not (eq-eqb r.refusal 0 read))

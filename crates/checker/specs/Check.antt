@@ -6,9 +6,9 @@ use Rattle.plan.specs.Teams.{team_matroid, present}
 use Rattle.sheet.specs.Layout.{length_of}
 use Rattle.sheet.specs.Fields.{holder_at}
 use Rattle.sheet.specs.Form.{form, first_fault}
-use Rattle.checker.specs.declared.Verdict.{Verdict}
-use Rattle.checker.specs.declared.Verdict.TheVariants.{Accepted, Refused}
+use Rattle.checker.specs.Verdict.{Verdict, Accepted}
 use Rattle.command.specs.Rule.{Rule, rule, first_broken}
+use Rattle.command.specs.Refusal.{refuse}
 use Rattle.checker.specs.Rules.{dependent_at, total_holds, wrong_share_at, short_at}
 
 -- 13 "A bundle not independent", 14, 15 and 16, each at the lowest such team. A rule that is broken answers what is made of its number and place.
@@ -33,7 +33,7 @@ sheet_rules refuse r sheet = rule (not (eqb r.refusal 0)) (refuse r.refusal r.pl
 
 -- what a sheet comes to, by the reading of a plan
 unfoldable pub verdict_of : Reading → List ℕ → Verdict
-verdict_of r sheet = first_broken Accepted (sheet_rules Refused r sheet)
+verdict_of r sheet = first_broken Accepted (sheet_rules refuse r sheet)
 
 abbrev pub check_sheet : (plan sheet : List ℕ) → Verdict
 check_sheet plan sheet = verdict_of (read_plan plan) sheet

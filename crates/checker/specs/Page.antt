@@ -1,17 +1,15 @@
 -- Page (document 01): "For a team below n and a sheet that Check accepts, the stretch of the sheet from its SHARE to its last PART is handed
 -- back ... In every other case it is the empty stretch."
-use Rattle.std.specs.Prelude.{ℕ, ◌+◌, ◌-◌, Bool, true, false, ◌&&◌, cond, List, ltb, take, drop}
+use Rattle.std.specs.Prelude.{ℕ, ◌+◌, ◌-◌, Bool, ◌&&◌, cond, is_ok, List, ltb, take, drop}
 use Rattle.plan.specs.declared.Reading.{Reading}
 use Rattle.plan.specs.Read.{read_plan}
 use Rattle.sheet.specs.Layout.{share_start, page_length}
 use Rattle.checker.specs.declared.Stretch.{Stretch}
-use Rattle.checker.specs.declared.Verdict.{Verdict}
-use Rattle.checker.specs.declared.Verdict.TheVariants.{Accepted, Refused}
+use Rattle.checker.specs.Verdict.{Verdict}
 use Rattle.checker.specs.Check.{verdict_of}
 
 abbrev pub accepts : Verdict → Bool
-accepts Accepted = true
-accepts (Refused number place) = false
+accepts v = is_ok v
 
 -- "from its SHARE to its last PART"
 abbrev pub from_share : (m t : ℕ) → Stretch

@@ -1,6 +1,6 @@
 -- The rules of Check about the division and the shares that a sheet states (document 01, "Check", 13 to 16; document 02, note 2), in worth and
 -- size. They know a plan only through the matroids M of its n teams, and which teams are present.
-use Rattle.std.specs.Prelude.{ℕ, ◌+◌, ◌*◌, Bool, ◌&&◌, ◌||◌, not, List, eqb, leb, ltb}
+use Rattle.std.specs.Prelude.{ℕ, ◌+◌, ◌*◌, Bool, ◌&&◌, ◌||◌, not, cond, List, eqb, leb, ltb, Some, None, Option}
 use Rattle.matroid.specs.Decide.{is_yes}
 use Rattle.matroid.specs.Set.{Set, complement, size}
 use Rattle.matroid.specs.Sum.{sum}
@@ -13,6 +13,10 @@ use Rattle.checker.specs.Tests.{every, lowest_failing}
 -- whether a set is independent
 abbrev pub independent : {m : ℕ} → Matroid m → Set → Bool
 independent M A = is_yes (M.decide A)
+
+-- a team that is looked for among n: none is found where the search comes to n
+abbrev pub found : (n t : ℕ) → Option ℕ
+found n t = cond (ltb t n) (Some t) None
 
 -- 13: the lowest team whose bundle is not independent, in a division
 unfoldable pub dependent_at : {m : ℕ} → (n : ℕ) → (ℕ → Matroid m) → (ℕ → ℕ) → ℕ

@@ -1,7 +1,6 @@
 -- A verdict in the paper's numbers: "A refusal answers its number and place", "Acceptance answers 0".
 use Rattle.std.specs.Prelude.{ℕ, ◌≡◌, List}
-use Rattle.checker.specs.declared.Verdict.{Verdict}
-use Rattle.checker.specs.Verdict.{verdict_number, verdict_place}
+use Rattle.checker.specs.Verdict.{Verdict, verdict_number, verdict_place}
 use Rattle.checker.specs.Check.{check_number, check_place}
 
 pub record CheckTold (plan sheet : List ℕ) (v : Verdict) : Type 0 where

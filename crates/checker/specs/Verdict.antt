@@ -1,13 +1,18 @@
 -- The answer of Check, as the paper's number and place.
-use Rattle.std.specs.Prelude.{ℕ}
-use Rattle.checker.specs.declared.Verdict.{Verdict}
-use Rattle.checker.specs.declared.Verdict.TheVariants.{Accepted, Refused}
+use Rattle.std.specs.Prelude.{ℕ, ⊤, Ok, Result}
+use Rattle.command.specs.declared.refusal.Refusal.{Refusal}
+use Rattle.command.specs.Refusal.{number_of, place_of}
+
+-- nothing beside it where the sheet is accepted, and else the refusal
+abbrev pub Verdict : Type 0
+Verdict = Result ⊤ Refusal
+
+abbrev pub Accepted : Verdict
+Accepted = Ok tt
 
 -- "A refusal answers its number and place"; "Acceptance answers 0"
 abbrev pub verdict_number : Verdict → ℕ
-verdict_number Accepted = 0
-verdict_number (Refused number place) = number
+verdict_number v = number_of v
 
 abbrev pub verdict_place : Verdict → ℕ
-verdict_place Accepted = 0
-verdict_place (Refused number place) = place
+verdict_place v = place_of v

@@ -1,4 +1,5 @@
 // The shares that a sheet states: each by the team's own PARTs and set, and held against what the team holds.
+// Kept (point 5): m ≤ 64 and n ≤ 12 stand in each contract, as in `sheet`.
 ghost use Rattle.std.specs.Prelude.{◌≡◌, ℕ, ◌+◌, ◌*◌, ◌≤◌, length};
 ghost use Rattle.sets.specs.Bits.{bit};
 ghost use Rattle.sets.specs.Bundles.{Bundles};
@@ -6,7 +7,7 @@ ghost use Rattle.kinds.specs.Valuations.{matroid_of, matroids};
 ghost use Rattle.sheet.specs.Layout.{length_of, share_start};
 ghost use Rattle.sheet.specs.Fields.{holder_at, share_at, set_at, part_at};
 ghost use Rattle.sheet.specs.Named.{named};
-ghost use Rattle.checker.specs.Rules.{parts_hold, share_holds, wrong_share_at, short_at};
+ghost use Rattle.checker.specs.Rules.{found, parts_hold, share_holds, wrong_share_at, short_at};
 
 use kinds::Valuation;
 
@@ -18,8 +19,8 @@ fn parts_hold(valuation: Valuation, m: usize, p: usize, share: usize, parts: [u6
     if share == 0 {
         return true;
     }
-    for k in 0..p {
-        if kinds::worth_of(valuation, m, parts[k]) < share {
+    for part in &parts[..p] {
+        if kinds::worth_of(valuation, m, *part) < share {
             return false;
         }
     }
@@ -51,39 +52,38 @@ fn team_holds(valuation: Valuation, m: usize, p: usize, t: usize, sheet: &[u8]) 
     share_holds(valuation, m, p, sheet[at + 2], set, &sheet[start..end])
 }
 
-// The lowest team whose share is not what its PARTs and its set show, or n. Those in `here` are present, and no other team is tested.
+// The lowest team whose share is not what its PARTs and its set show. Those in `here` are present, and no other team is tested.
 pub fn first_wrong(
     valuations: [Valuation; 12],
     m: usize,
     n: usize,
     here: u64,
     sheet: &[u8],
-) -> usize
+) -> Option<usize>
     requires { (m ≤ 64) × (n ≤ 12) × (length valuations ≡ 12) × (length_of m n ≤ length sheet.now) }
-    ensures { result ≡ wrong_share_at n (bit here) (matroids m valuations) sheet.now }
+    ensures { result ≡ found n (wrong_share_at n (bit here) (matroids m valuations) sheet.now) }
 {
     let p = sets::size_below(n, here);
-    for t in 0..n {
+    for (t, valuation) in valuations[..n].iter().enumerate() {
         if sets::member(here, t) {
-            let valuation = valuations[t];
-            if !team_holds(valuation, m, p, t, sheet) {
-                return t;
+            if !team_holds(*valuation, m, p, t, sheet) {
+                return Some(t);
             }
         }
     }
-    n
+    None
 }
 
-// The lowest team that holds fewer instruments than its share, or n.
-pub fn first_short(bundles: [u64; 12], m: usize, n: usize, sheet: &[u8]) -> usize
+// The lowest team that holds fewer instruments than its share.
+pub fn first_short(bundles: [u64; 12], m: usize, n: usize, sheet: &[u8]) -> Option<usize>
     requires { (m ≤ 64) × (n ≤ 12) × (length_of m n ≤ length sheet.now) }
-    ensures { Bundles m (holder_at sheet.now) bundles → result ≡ short_at m n sheet.now }
+    ensures { Bundles m (holder_at sheet.now) bundles → result ≡ found n (short_at m n sheet.now) }
 {
-    for t in 0..n {
+    for (t, bundle) in bundles[..n].iter().enumerate() {
         let share = sets::wide(sheet[sheet::share_start(m, t) + 2]);
-        if sets::size(bundles[t]) < share {
-            return t;
+        if sets::size(*bundle) < share {
+            return Some(t);
         }
     }
-    n
+    None
 }

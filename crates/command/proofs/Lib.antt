@@ -1,3 +1,2 @@
-pub mod Called
 pub mod Mapped
 pub mod Standing

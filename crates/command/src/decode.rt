@@ -5,13 +5,15 @@ ghost use Rattle.command.specs.Command.{width_of, command_by, command_at, bytes_
 use super::Command;
 
 // The byte at an offset, and 0 past the end.
+// Kept (point 1): the clause says 0 past the end, and `read_plan` tests the first byte so.
 pub fn byte_at(file: &[u8], at: usize) -> u8
     ensures { result ≡ get_or file.now at 0 }
 {
-    if at < file.len() { file[at] } else { 0 }
+    file.get(at).copied().unwrap_or(0)
 }
 
 // How many bytes the command of a byte has, operands included, and 0 for a byte that is no command's.
+// Kept (point 1): a byte of the file is a number, of which `Command` is the enum; `command_at` says 0 of one that is no command's.
 fn width_of(byte: u8) -> usize
     ensures { result ≡ width_of byte }
 {
@@ -84,25 +86,18 @@ pub fn command_at(file: &[u8], at: usize) -> Command
 }
 
 // How many bytes a command has.
+// Kept (point 1): `bytes_of` says 0 where there is no command.
 pub fn width(command: Command) -> usize
     ensures { result ≡ bytes_of command }
 {
     match command {
-        Command::Missing => 0,
-        Command::Unknown => 0,
-        Command::Short => 0,
-        Command::Start(_, _) => 3,
-        Command::Caps(_) => 2,
-        Command::Loops(_) => 2,
-        Command::Mounts(_) => 2,
-        Command::Class(_, _) => 3,
-        Command::Put(_, _) => 3,
-        Command::Span(_, _, _) => 4,
-        Command::Fit(_, _, _, _, _) => 6,
-        Command::Shelf(_, _, _, _, _) => 6,
-        Command::Days(_, _, _, _) => 5,
-        Command::Glue(_) => 2,
+        Command::Missing | Command::Unknown | Command::Short => 0,
         Command::End => 1,
+        Command::Caps(_) | Command::Loops(_) | Command::Mounts(_) | Command::Glue(_) => 2,
+        Command::Start(..) | Command::Class(..) | Command::Put(..) => 3,
+        Command::Span(..) => 4,
+        Command::Days(..) => 5,
+        Command::Fit(..) | Command::Shelf(..) => 6,
     }
 }
 

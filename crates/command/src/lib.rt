@@ -3,9 +3,11 @@
 
 pub mod decode;
 pub mod reader;
+pub mod refusal;
 
 // What stands at an offset of the file.
-#[derive(Clone, Copy)]
+// Kept (point 1): the first three say why there is no command; `command_at` and `fault` speak of all of these alike.
+#[derive(Clone, Copy, PartialEq, Eq)]
 pub enum Command {
     // The file ends here.
     Missing,

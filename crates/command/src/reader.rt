@@ -1,6 +1,6 @@
 // The reader of a plan: it hands out the commands one after another.
 ghost use Rattle.std.specs.Prelude.{◌≡◌};
-ghost use Rattle.command.specs.Reader.{reader_at, next_of};
+ghost use Rattle.command.specs.Reader.{reader_at, handed_out, moved_on};
 
 use super::{Command, decode};
 
@@ -11,13 +11,6 @@ pub struct Reader<'a> {
     pub at: usize,
 }
 
-// The command that a reader hands out, and the reader moved past it.
-#[derive(Clone, Copy)]
-pub struct Next<'a> {
-    pub command: Command,
-    pub reader: Reader<'a>,
-}
-
 impl<'a> Reader<'a> {
     // The reader at the start of a file.
     pub fn new(file: &'a [u8]) -> Reader<'a>
@@ -26,17 +19,12 @@ impl<'a> Reader<'a> {
         Reader { file, at: 0 }
     }
 
-    // Hands out the next command.
-    pub fn next(self) -> Next<'a>
-        ensures { result ≡ next_of self.entry }
+    // Hands out the next command, and moves past it.
+    pub fn next(&mut self) -> Command
+        ensures { (result ≡ handed_out self.old) × (self.new ≡ moved_on self.old) }
     {
         let found = decode::found_at(self.file, self.at);
-        Next {
-            command: found.command,
-            reader: Reader {
-                file: self.file,
-                at: found.end,
-            },
-        }
+        self.at = found.end;
+        found.command
     }
 }

@@ -6,13 +6,13 @@ use mathlib.Core.List.{List}
 use lib.Dec.{eqb}
 use lib.ListN.{length, get_or}
 use borrow.Author.Tests.{eqb-true}
-use Rattle.sets.proofs.Lists.{get_d_any}
+use Rattle.std.proofs.lemmas.List.{get_or_default}
 use Rattle.days.specs.declared.Days.{Days}
 use Rattle.days.specs.Days.{always, dated, within, usable_on}
 
 -- of an instrument, as the code reads its shelf days
 pub usable_here : (shelf : List Days) (days : Days) (i : ℕ) (d : Days) → i < length shelf → within days (get_or shelf i d) ≡ usable_on shelf days i
-usable_here shelf days i d l = ap (within days) (get_d_any shelf i d always l)
+usable_here shelf days i d l = ap (within days) (get_or_default shelf i d always l)
 
 -- days that are no others than where none are named
 pub undated : (days : Days) → dated days ≡ false → days ≡ always

@@ -2,16 +2,14 @@
 use Prim.Native.Nat.{ℕ}
 use mathlib.Core.Path.{◌≡◌}
 use mathlib.Core.List.{List}
-use Rattle.plan.specs.declared.Answer.{Answer}
+use Rattle.std.proofs.Common.{Result}
+use Rattle.command.specs.declared.refusal.Refusal.{Refusal}
 use Rattle.plan.specs.Worth.{worth_number, worth_place, worth_value, WorthTold}
-use Rattle.checker.specs.declared.Verdict.{Verdict}
-use Rattle.checker.specs.declared.Verdict.TheVariants.{Accepted}
-use Rattle.checker.specs.Verdict.{verdict_number, verdict_place}
+use Rattle.checker.specs.Verdict.{Verdict, Accepted, verdict_number, verdict_place}
 use Rattle.checker.specs.Check.{check_sheet}
 use Rattle.checker.specs.Told.{CheckTold}
 use Rattle.checker.specs.Fair.{Fair}
-use Rattle.builder.specs.declared.Built.{Built}
-use Rattle.builder.specs.Build.{build_answer, built_number, built_place, built_length, BuildTold, Answered}
+use Rattle.builder.specs.Build.{Built, build_answer, built_number, built_place, built_length, BuildTold, Answered}
 use Rattle.demands.specs.One.{Builds, Checks}
 use Rattle.demands.specs.Two.{Values, Accepts}
 use Rattle.demands.specs.Three.{Good, Writes}
@@ -25,7 +23,7 @@ pub demand_1 : (plan sheet before after : List ℕ) (b : Built) (v : Verdict) �
 demand_1 plan sheet before after b v told answered checked = (builds plan before after b told answered, checks plan sheet v checked)
 
 -- 2: "Worth is matroid rank, shares are maximin shares (arXiv 2012.12710). The checker accepts a sheet if it meets the rules, and only then."
-pub demand_2 : (plan sheet : List ℕ) (team set : ℕ) (a : Answer) (v : Verdict) → WorthTold plan team set a → v ≡ check_sheet plan sheet → (v ≡ Accepted → Fair plan sheet)
+pub demand_2 : (plan sheet : List ℕ) (team set : ℕ) (a : Result ℕ Refusal) (v : Verdict) → WorthTold plan team set a → v ≡ check_sheet plan sheet → (v ≡ Accepted → Fair plan sheet)
     → Values plan team set (worth_number a) (worth_place a) (worth_value a) × Accepts plan sheet (verdict_number v)
 demand_2 plan sheet team set a v told is fair = (values plan team set a told, check_accepts plan sheet v is fair)
 

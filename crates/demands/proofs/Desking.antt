@@ -10,8 +10,9 @@ use borrow.Author.Tests.{eqb-true}
 use Rattle.matroid.proofs.Sets.{size_le}
 use Rattle.matroid.proofs.Rank.{worth_le_size}
 use Rattle.sets.specs.Bits.{bit}
-use Rattle.plan.specs.declared.Answer.{Answer}
-use Rattle.plan.specs.declared.Answer.TheVariants as answer
+use Rattle.std.proofs.Common.{Ok, Err, Result}
+use Rattle.command.specs.declared.refusal.Refusal.{Refusal}
+use Rattle.command.specs.Refusal.{refuse}
 use Rattle.plan.specs.declared.Reading.{Reading}
 use Rattle.plan.specs.Read.{read_plan}
 use Rattle.plan.specs.Teams.{team_matroid}
@@ -21,15 +22,11 @@ use Rattle.plan.proofs.Bounds.{bounded}
 use Rattle.plan.proofs.Numbers.{read_most}
 use Rattle.sheet.specs.Layout.{length_of}
 use Rattle.sheet.proofs.Sizes.{length_le}
-use Rattle.checker.specs.declared.Verdict.{Verdict}
-use Rattle.checker.specs.declared.Verdict.TheVariants as verdict
-use Rattle.checker.specs.Verdict.{verdict_number, verdict_place}
+use Rattle.checker.specs.Verdict.{Verdict, verdict_number, verdict_place}
 use Rattle.checker.specs.Check.{check_sheet}
 use Rattle.checker.proofs.Answers.{check_told}
 use Rattle.checker.proofs.Acceptance.{fair}
-use Rattle.builder.specs.declared.Built.{Built}
-use Rattle.builder.specs.declared.Built.TheVariants.{Refused, Wrote}
-use Rattle.builder.specs.Build.{build_answer, built_number, built_place, built_length, Answered}
+use Rattle.builder.specs.Build.{Built, build_answer, built_number, built_place, built_length, Answered}
 use Rattle.builder.proofs.Answering.{build_told}
 use Rattle.listing.specs.Listing.{listing_by}
 use Rattle.listing.specs.Lent.{text_answer}
@@ -44,8 +41,8 @@ use Rattle.demands.proofs.Listing.{lists}
 
 -- one number of Build's answer
 built_one : (a : Built) → desk_built a ≡ 65536 * built_number a + built_place a + built_length a
-built_one (Refused number place) = omega arith
-built_one (Wrote long) = omega arith
+built_one (Ok long) = omega arith
+built_one (Err x) = omega arith
 
 -- the length answered is small
 length_small : (plan before : List ℕ) → built_length (build_answer plan before) < 65536
@@ -74,8 +71,8 @@ desk_builds plan before after k is answered = record {
 
 -- one number of Check's
 verdict_one : (v : Verdict) → desk_verdict v ≡ 65536 * verdict_number v + verdict_place v
-verdict_one verdict.Accepted = omega arith
-verdict_one (verdict.Refused number place) = refl
+verdict_one (Ok x) = omega arith
+verdict_one (Err x) = refl
 
 pub desk_checks : (plan sheet : List ℕ) (k : ℕ) → k ≡ desk_verdict (check_sheet plan sheet) → DeskChecks plan sheet k
 desk_checks plan sheet k is = record {
@@ -98,13 +95,13 @@ listed_small plan sheet before = go (check_sheet plan sheet) refl
     text : List ℕ
     text = listing_by (read_plan plan) sheet
 
-    fits : (b : Bool) → length text ≤ 512 → built_length (cond b (Refused 10 (length text)) (Wrote (length text))) < 65536
+    fits : (b : Bool) → length text ≤ 512 → built_length (cond b (refuse 10 (length text)) (Ok (length text))) < 65536
     fits true l = omega arith
     fits false l = omega arith
 
     go : (v : Verdict) → v ≡ check_sheet plan sheet → built_length (answer_by v text before) < 65536
-    go verdict.Accepted e = fits (ltb (length before) (length text)) (listing_most plan sheet (sym e))
-    go (verdict.Refused number place) e = omega arith
+    go (Ok x) e = fits (ltb (length before) (length text)) (listing_most plan sheet (sym e))
+    go (Err x) e = omega arith
 
 pub desk_lists : (plan sheet before after : List ℕ) (k : ℕ) → k ≡ desk_built (list_answer plan sheet before) → after ≡ list_bytes plan sheet before → DeskLists plan sheet before after k
 desk_lists plan sheet before after k is bytes = record {
@@ -120,14 +117,14 @@ desk_lists plan sheet before after k is bytes = record {
     a = list_answer plan sheet before
 
 -- one number of Worth's
-worth_one : (a : Answer) → desk_worth a ≡ 65536 * worth_number a + worth_place a + worth_value a
-worth_one (answer.Refused number place) = omega arith
-worth_one (answer.Worth worth) = omega arith
+worth_one : (a : Result ℕ Refusal) → desk_worth a ≡ 65536 * worth_number a + worth_place a + worth_value a
+worth_one (Ok worth) = omega arith
+worth_one (Err x) = omega arith
 
 -- no set is worth more than there are instruments
-worth_small : (plan : List ℕ) (team set : ℕ) (a : Answer) → WorthTold plan team set a → worth_value a ≤ 64
-worth_small plan team set (answer.Refused number place) told = omega arith
-worth_small plan team set (answer.Worth worth) told =
+worth_small : (plan : List ℕ) (team set : ℕ) (a : Result ℕ Refusal) → WorthTold plan team set a → worth_value a ≤ 64
+worth_small plan team set (Err x) told = omega arith
+worth_small plan team set (Ok worth) told =
     let v = (bounded plan).valid (sym told.number) in
     let small = v.small in
     let most = worth_le_size (team_matroid (read_plan plan) team) (bit set) in
@@ -153,7 +150,7 @@ desk_values plan team set k is = record {
   values = values plan team set a told;
 }
   where
-    a : Answer
+    a : Result ℕ Refusal
     a = worth_answer plan team set
 
     told : WorthTold plan team set a

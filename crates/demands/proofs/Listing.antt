@@ -7,15 +7,14 @@ use native.Mathlib.Omega.{arith}
 use lib.ListN.{length}
 use borrow.Author.Tests.{lt-ltb, le-ltb}
 use Rattle.plan.specs.Read.{read_plan}
-use Rattle.checker.specs.declared.Verdict.{Verdict}
-use Rattle.checker.specs.declared.Verdict.TheVariants as verdict
+use Rattle.std.proofs.Common.{Ok, Err}
+use Rattle.command.specs.Refusal.{refuse}
+use Rattle.checker.specs.Verdict.{Verdict, Accepted}
 use Rattle.checker.specs.Check.{check_sheet}
 use Rattle.checker.specs.Stated.{Stated}
 use Rattle.checker.proofs.Answers.{check_told}
 use Rattle.checker.proofs.Acceptance.{stated, accepts, fair}
-use Rattle.builder.specs.declared.Built.{Built}
-use Rattle.builder.specs.declared.Built.TheVariants.{Refused, Wrote}
-use Rattle.builder.specs.Build.{built_number, built_place, built_length}
+use Rattle.builder.specs.Build.{Built, built_number, built_place, built_length}
 use Rattle.listing.specs.Listing.{listing_by, refusal_line}
 use Rattle.listing.specs.Lent.{text_answer, text_in}
 use Rattle.listing.specs.List.{answer_by, bytes_by, list_answer, list_bytes}
@@ -28,11 +27,11 @@ use Rattle.demands.proofs.Refusing.{checks}
 use Rattle.demands.proofs.Writing.{fair_good}
 
 -- a text in a buffer that is long enough, and in one that is not
-text_fits : (text before : List ℕ) → length text ≤ length before → (text_answer text before ≡ Wrote (length text)) × StartsWith text before (text_in text before)
+text_fits : (text before : List ℕ) → length text ≤ length before → (text_answer text before ≡ Ok (length text)) × StartsWith text before (text_in text before)
 unfolding text_answer text_in
 text_fits text before l = rw (le-ltb (length before) (length text) l) (refl, refl)
 
-text_long : (text before : List ℕ) → length before < length text → (text_answer text before ≡ Refused 10 (length text)) × (text_in text before ≡ before)
+text_long : (text before : List ℕ) → length before < length text → (text_answer text before ≡ refuse 10 (length text)) × (text_in text before ≡ before)
 unfolding text_answer text_in
 text_long text before l = rw (lt-ltb (length before) (length text) l) (refl, refl)
 
@@ -53,15 +52,15 @@ lists plan sheet before after a is bytes = record {
     text : List ℕ
     text = listing_by (read_plan plan) sheet
 
-    ok : Stated (read_plan plan) sheet → check_sheet plan sheet ≡ verdict.Accepted
+    ok : Stated (read_plan plan) sheet → check_sheet plan sheet ≡ Accepted
     ok s = accepts (read_plan plan) sheet s
 
     left : (v : Verdict) → v ≡ check_sheet plan sheet → (Stated (read_plan plan) sheet → ⊥) → Checks plan sheet (built_number a) (built_place a) × (after ≡ before)
-    left verdict.Accepted e d = absurd (d (stated (read_plan plan) sheet e))
-    left (verdict.Refused number place) e d =
+    left (Ok x) e d = absurd (d (stated (read_plan plan) sheet e))
+    left (Err x) e d =
         let told = is ∙ ap (λ (v : Verdict). answer_by v text before) (sym e) in
-        let c : Checks plan sheet number place = checks plan sheet (verdict.Refused number place) (check_told plan sheet (read_plan plan) refl (verdict.Refused number place) e) in
-        (subst (λ (k : ℕ). Checks plan sheet k (built_place a)) (sym (ap built_number told)) (subst (Checks plan sheet number) (sym (ap built_place told)) c), bytes ∙ ap (λ (v : Verdict). bytes_by v text before) (sym e))
+        let c : Checks plan sheet x.number x.place = checks plan sheet (Err x) (check_told plan sheet (read_plan plan) refl (Err x) e) in
+        (subst (λ (k : ℕ). Checks plan sheet k (built_place a)) (sym (ap built_number told)) (subst (Checks plan sheet x.number) (sym (ap built_place told)) c), bytes ∙ ap (λ (v : Verdict). bytes_by v text before) (sym e))
 
 pub lines : (number place : ℕ) (before after : List ℕ) (a : Built) → a ≡ text_answer (refusal_line number place) before → after ≡ text_in (refusal_line number place) before
     → Lines number place before after (built_number a) (built_place a) (built_length a)
@@ -77,7 +76,7 @@ text_most {plan} (week.listed sheet ok) = listing_most plan sheet ok
 
 -- where it is put into 512 bytes
 module _ (plan before after : List ℕ) (a : Built) (room : 512 ≤ length before) where
-  text_wrote : {text : List ℕ} → WeekText plan text → a ≡ text_answer text before → a ≡ Wrote (length text)
+  text_wrote : {text : List ℕ} → WeekText plan text → a ≡ text_answer text before → a ≡ Ok (length text)
   text_wrote {text} k is = is ∙ (text_fits text before (let l = text_most k in omega arith)).0
 
   text_starts : {text : List ℕ} → WeekText plan text → after ≡ text_in text before → StartsWith text before after

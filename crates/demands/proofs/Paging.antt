@@ -11,8 +11,8 @@ use Rattle.plan.specs.declared.Reading.{Reading}
 use Rattle.plan.specs.Read.{read_plan}
 use Rattle.sheet.specs.Layout.{share_start}
 use Rattle.checker.specs.declared.Stretch.{Stretch}
-use Rattle.checker.specs.declared.Verdict.{Verdict}
-use Rattle.checker.specs.declared.Verdict.TheVariants.{Accepted, Refused}
+use Rattle.std.proofs.Common.{Ok, Err}
+use Rattle.checker.specs.Verdict.{Verdict}
 use Rattle.checker.specs.Check.{verdict_of}
 use Rattle.checker.specs.Page.{accepts, from_share, empty_stretch, stretch_by, stretch_of, bytes_of, page_of}
 use Rattle.checker.specs.Stated.{Stated}
@@ -40,8 +40,8 @@ module _ (plan sheet : List ℕ) (t : ℕ) where
   stretch_absent l = rw (le-ltb t r.n l) refl
 
   not_accepted : (v : Verdict) → v ≡ verdict_of r sheet → (Stated r sheet → ⊥) → accepts v ≡ false
-  not_accepted Accepted e d = absurd (d (acceptance.stated r sheet e))
-  not_accepted (Refused number place) e d = refl
+  not_accepted (Ok x) e d = absurd (d (acceptance.stated r sheet e))
+  not_accepted (Err x) e d = refl
 
   stretch_refused : (Stated r sheet → ⊥) → stretch_of plan sheet t ≡ empty_stretch
   unfolding stretch_by

@@ -16,16 +16,15 @@ use Rattle.matroid.proofs.Shares.{share_attained, share_most}
 use Rattle.matroid.proofs.Present.{present_some}
 use Rattle.sets.specs.Bits.{bit}
 use Rattle.plan.specs.declared.Reading.{Reading}
-use Rattle.plan.specs.declared.Answer.{Answer}
-use Rattle.plan.specs.declared.Answer.TheVariants as answer
+use Rattle.std.proofs.Common.{Ok, Err, Result}
+use Rattle.command.specs.declared.refusal.Refusal.{Refusal}
+use Rattle.command.specs.Refusal.{refuse}
 use Rattle.plan.specs.Read.{read_plan}
 use Rattle.plan.specs.Teams.{team_matroid, present, present_count}
 use Rattle.plan.proofs.Answers.{absent_worth}
 use Rattle.plan.specs.Worth.{answer_of, worth_answer, worth_number, worth_place, worth_value, WorthTold}
 use Rattle.sheet.specs.Fields.{share_at}
-use Rattle.checker.specs.declared.Verdict.{Verdict}
-use Rattle.checker.specs.declared.Verdict.TheVariants.{Accepted, Refused}
-use Rattle.checker.specs.Verdict.{verdict_number}
+use Rattle.checker.specs.Verdict.{Verdict, Accepted, verdict_number}
 use Rattle.command.specs.Rule.{Rule, first_broken}
 use Rattle.checker.specs.Check.{sheet_rules, verdict_of, check_sheet}
 use Rattle.checker.specs.Fair.{FairBy, Fair}
@@ -50,7 +49,7 @@ share_maximin M n s pos e =
     }
 
 -- Worth
-pub values : (plan : List ℕ) (team set : ℕ) (a : Answer) → WorthTold plan team set a → Values plan team set (worth_number a) (worth_place a) (worth_value a)
+pub values : (plan : List ℕ) (team set : ℕ) (a : Result ℕ Refusal) → WorthTold plan team set a → Values plan team set (worth_number a) (worth_place a) (worth_value a)
 values plan team set a told = record {
   refusal = (told.number, told.place);
   rank = worth_rank (team_matroid r team) (bit set) (worth_value a) told.value;
@@ -61,16 +60,16 @@ values plan team set a told = record {
     r = read_plan plan
 
 -- an answer of number 0 is a worth
-pub worth_case : (plan : List ℕ) (team set : ℕ) (a : Answer) → a ≡ worth_answer plan team set → worth_number a ≡ 0 → a ≡ answer.Worth (worth_value a)
+pub worth_case : (plan : List ℕ) (team set : ℕ) (a : Result ℕ Refusal) → a ≡ worth_answer plan team set → worth_number a ≡ 0 → a ≡ Ok (worth_value a)
 unfolding answer_of
-worth_case plan team set a e z = e ∙ go (ℕ_discrete r.refusal 0) ∙ ap (λ (x : Answer). answer.Worth (worth_value x)) (sym e)
+worth_case plan team set a e z = e ∙ go (ℕ_discrete r.refusal 0) ∙ ap (λ (x : Result ℕ Refusal). Ok (worth_value x)) (sym e)
   where
     r : Reading
     r = read_plan plan
 
-    go : Dec (r.refusal ≡ 0) → answer_of r team set ≡ answer.Worth (worth_value (answer_of r team set))
+    go : Dec (r.refusal ≡ 0) → answer_of r team set ≡ Ok (worth_value (answer_of r team set))
     go (yes y) = rw (eq-eqb r.refusal 0 y, answer_of) refl
-    go (no d) = absurd (d (let here : answer_of r team set ≡ answer.Refused r.refusal r.place = rw (ne_eqb r.refusal 0 d, answer_of) refl in sym (ap worth_number here) ∙ sym (ap worth_number e) ∙ z))
+    go (no d) = absurd (d (let here : answer_of r team set ≡ refuse r.refusal r.place = rw (ne_eqb r.refusal 0 d, answer_of) refl in sym (ap worth_number here) ∙ sym (ap worth_number e) ∙ z))
 
 -- from Fair alone: the shares stated are maximin shares
 pub fair_shares : (r : Reading) (sheet : List ℕ) → FairBy r sheet → SharesBy r sheet
@@ -88,7 +87,7 @@ none_broken (r ∷ rs) a z = go r.broken refl (none_broken rs a.1) z
 -- a refusal of Read has no number 0, and the other rules have 11 to 16
 number_0 : (r : Reading) (sheet : List ℕ) → verdict_number (verdict_of r sheet) ≡ 0 → Accepted ≡ verdict_of r sheet
 unfolding verdict_of
-number_0 r sheet z = none_broken (sheet_rules Refused r sheet) (
+number_0 r sheet z = none_broken (sheet_rules refuse r sheet) (
   λ b e. false≢true (sym (ap not (eq-eqb r.refusal 0 e)) ∙ b),
   (λ b e. omega arith, (λ b e. omega arith, (λ b e. omega arith, (λ b e. omega arith, (λ b e. omega arith, (λ b e. omega arith, tt)))))),
 ) z

@@ -23,15 +23,13 @@ use Rattle.sheet.specs.Fields.{holder_at, share_at, part_at}
 use Rattle.sheet.specs.Form.{form, first_fault}
 use Rattle.sheet.specs.Formed.{Formed}
 use Rattle.sheet.proofs.Forming.{passes_form, formed_passes}
-use Rattle.checker.specs.declared.Verdict.{Verdict}
 use Rattle.checker.specs.Rules.{independent, dependent_at, bound_of, total_holds, parts_hold, share_holds, share_test, wrong_share_at, short_at}
 use Rattle.checker.specs.Check.{division_rules, sheet_rules}
-use Rattle.checker.specs.Verdict.{verdict_number, verdict_place}
+use Rattle.checker.specs.Verdict.{Verdict, verdict_number, verdict_place}
 use Rattle.checker.specs.Told.{CheckTold}
 use Rattle.checker.proofs.Lowest.{lowest_at, lowest_none, every_true}
 use Rattle.checker.proofs.Acceptance.{share_passes, share_reached, share_limited, total_given, total_bound, tested, passed}
-use Rattle.builder.specs.declared.Built.{Built}
-use Rattle.builder.specs.Build.{build_rules, built_number, built_place, built_length, BuildTold, Answered}
+use Rattle.builder.specs.Build.{Built, build_rules, built_number, built_place, built_length, BuildTold, Answered}
 use Rattle.builder.specs.Build as build
 use Rattle.demands.specs.One.{L, Builds, Lowest, Every, Independent, TotalHolds, ShareHolds, Enough, Checks, Reads}
 

@@ -2,9 +2,9 @@
 // those of `holdings` ask something: note 7 wants them called where sizes and shortfall are right.
 #![tactic(auto)]
 
-ghost use Rattle.std.specs.Prelude.{◌≡◌};
+ghost use Rattle.std.specs.Prelude.{◌≡◌, Ok};
 ghost use Rattle.plan.specs.Worth.{worth_number, worth_place, worth_value};
-ghost use Rattle.checker.specs.Verdict.{verdict_number, verdict_place};
+ghost use Rattle.checker.specs.Verdict.{Accepted, verdict_number, verdict_place};
 ghost use Rattle.checker.specs.Check.{check_place};
 ghost use Rattle.builder.specs.Build.{built_number, built_place, built_length};
 ghost use Rattle.demands.specs.One.{Builds, Checks, Reads};
@@ -12,9 +12,8 @@ ghost use Rattle.demands.specs.Two.{Values, Accepts};
 ghost use Rattle.demands.specs.Three.{Good, Writes, Agrees};
 ghost use Rattle.demands.specs.Pages.{Pages};
 
-use builder::Built;
-use checker::Verdict;
-use plan::{Answer, Reading};
+use command::refusal::Refusal;
+use plan::Reading;
 
 pub mod desks;
 pub mod holdings;
@@ -28,28 +27,28 @@ pub fn read(file: &[u8]) -> Reading
 }
 
 // Worth: the rank of the set, or Read's refusal.
-pub fn worth(file: &[u8], team: usize, set: u64) -> Answer
+pub fn worth(file: &[u8], team: usize, set: u64) -> Result<usize, Refusal>
     ensures two { Values file.now team set (worth_number result) (worth_place result) (worth_value result) }
-    ensures case { worth_number result ≡ 0 → result ≡ Answer.Worth (worth_value result) }
+    ensures case { worth_number result ≡ 0 → result ≡ Ok (worth_value result) }
 {
     plan::worth(file, team, set)
 }
 
 // Build: who is refused, and what is written.
-pub fn build(file: &[u8], buffer: &mut [u8]) -> Built
+pub fn build(file: &[u8], buffer: &mut [u8]) -> Result<usize, Refusal>
     ensures one { Builds file.now buffer.old buffer.new (built_number result) (built_place result) (built_length result) }
     ensures three { Writes file.now buffer.old buffer.new }
-    ensures case { built_number result ≡ 0 → result ≡ Built.Wrote (built_length result) }
+    ensures case { built_number result ≡ 0 → result ≡ Ok (built_length result) }
 {
     builder::build(file, buffer)
 }
 
 // Check: which rule is the first that is broken, exactly what is accepted, and what an accepted sheet means.
-pub fn check(file: &[u8], sheet: &[u8]) -> Verdict
+pub fn check(file: &[u8], sheet: &[u8]) -> Result<(), Refusal>
     ensures one { Checks file.now sheet.now (verdict_number result) (verdict_place result) }
     ensures two { Accepts file.now sheet.now (verdict_number result) }
     ensures three { verdict_number result ≡ 0 → Good file.now sheet.now }
-    ensures case { verdict_number result ≡ 0 → result ≡ Verdict.Accepted }
+    ensures case { verdict_number result ≡ 0 → result ≡ Accepted }
 {
     checker::check(file, sheet)
 }
@@ -58,10 +57,9 @@ pub fn check(file: &[u8], sheet: &[u8]) -> Verdict
 pub fn build_and_check(file: &[u8], buffer: &mut [u8]) -> usize
     ensures { Agrees file.now buffer.old result }
 {
-    let b = builder::build(file, buffer);
-    match b {
-        Built::Refused(number, _) => number,
-        Built::Wrote(long) => checker::number(checker::check(file, &buffer[..long])),
+    match builder::build(file, buffer) {
+        Ok(long) => checker::number(checker::check(file, &buffer[..long])),
+        Err(refusal) => refusal.number,
     }
 }
 

@@ -1,6 +1,6 @@
 // The command that names an instrument of a team: `instrument:class` for a PUT, `instrument:joint-joint` for a SPAN, and for a FIT
 // `instrument:` and its four bytes of mounts in hexadecimal, as they stand in the file.
-use lines::print;
+use lines::print::InHex;
 use std::io;
 
 // How many operands a naming command has after the instrument.
@@ -13,30 +13,14 @@ fn count(command: u8) -> usize {
     }
 }
 
-// Whether each operand from the one at `from` on is the filler.
-fn filler(operands: [u8; 4], from: usize) -> bool {
-    for k in 0..4usize {
-        if k >= from && operands[k] != 255 {
-            return false;
-        }
-    }
-    true
-}
-
 // The operands of a command, and nothing where it is the filler.
 fn show(rt: &impl Print, command: u8, operands: [u8; 4]) -> io::Result<()> {
     match command {
-        5 => print::marked(rt, b":", operands[0] as u64),
-        6 => {
-            print::marked(rt, b":", operands[0] as u64)?;
-            print::marked(rt, b"-", operands[1] as u64)
-        }
-        9 => {
-            print::text(rt, b":")?;
-            print::hex(rt, &operands)
-        }
+        5 => print!(rt; ":{}", operands[0]),
+        6 => print!(rt; ":{}-{}", operands[0], operands[1]),
+        9 => print!(rt; ":{}", InHex(&operands)),
         255 => Ok(()),
-        _ => print::marked(rt, b"?", command as u64),
+        _ => print!(rt; "?{command}"),
     }
 }
 
@@ -47,14 +31,17 @@ pub fn instrument(
     command: u8,
     operands: [u8; 4],
 ) -> io::Result<()> {
-    let rest = filler(operands, count(command));
+    let rest = operands
+        .iter()
+        .skip(count(command))
+        .all(|operand| *operand == 255);
     if command == 255 && rest {
         return Ok(());
     }
-    print::marked(rt, b" ", number as u64)?;
+    print!(rt; " {number}")?;
     show(rt, command, operands)?;
     if !rest {
-        print::text(rt, b"!")?;
+        print!(rt; "!")?;
     }
     Ok(())
 }

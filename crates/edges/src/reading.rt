@@ -1,110 +1,65 @@
 // The verb `read HEX`: what reading a plan comes to.
-ghost use Rattle.std.specs.Prelude.{◌<◌};
-
 use crate::{glue, loan, naming, space};
 use days::Days;
-use lines::print;
+use lines::{bytes, runs};
 use plan::Reading;
 use std::io;
-use team::Team;
-
-// `class=cap`, or `first-last=cap` for classes of one cap.
-fn cap(rt: &impl Print, first: usize, last: usize, cap: u8) -> io::Result<()> {
-    print::marked(rt, b" ", first as u64)?;
-    if first < last {
-        print::marked(rt, b"-", last as u64)?;
-    }
-    print::marked(rt, b"=", cap as u64)
-}
-
-// Whether the next class has another cap, or there is none.
-fn last(table: [u8; 16], class: usize) -> bool
-    requires { class < 16 }
-{
-    if class == 15 {
-        return true;
-    }
-    table[class] != table[class + 1]
-}
-
-// The caps, by class.
-fn caps(rt: &impl Print, table: [u8; 16]) -> io::Result<()> {
-    let mut first: usize = 0;
-    for k in 0..16usize {
-        if last(table, k) {
-            cap(rt, first, k, table[k])?;
-            first = k + 1;
-        }
-    }
-    Ok(())
-}
+use team::{Kind, NoKind, Team};
 
 // What names each instrument.
 fn instruments(rt: &impl Print, t: Team) -> io::Result<()> {
-    let named = t.named;
-    let first = t.first;
-    let second = t.second;
-    let third = t.third;
-    let fourth = t.fourth;
+    // Kept (point 3): the five tables of a team are read at one index, which a zip of five does not say as plainly.
     for i in 0..64usize {
-        let operands = [first[i], second[i], third[i], fourth[i]];
-        naming::instrument(rt, i, named[i], operands)?;
+        let operands = [t.first[i], t.second[i], t.third[i], t.fourth[i]];
+        naming::instrument(rt, i, t.named[i], operands)?;
     }
     Ok(())
 }
 
 // A team's kind, by the byte that opens the team.
 fn kind(rt: &impl Print, byte: u8) -> io::Result<()> {
-    match byte {
-        2 => print::text(rt, b"; CAPS"),
-        3 => print::text(rt, b"; LOOPS"),
-        8 => print::text(rt, b"; MOUNTS"),
-        _ => print::marked(rt, b"; KIND ", byte as u64),
+    match Kind::try_from(byte) {
+        Ok(Kind::Caps) => print!(rt; "; CAPS"),
+        Ok(Kind::Loops) => print!(rt; "; LOOPS"),
+        Ok(Kind::Mounts) => print!(rt; "; MOUNTS"),
+        Err(NoKind(byte)) => print!(rt; "; KIND {byte}"),
     }
 }
 
-// A team: its kind and channels, all that its tables hold, whichever kind it is, and its days.
-fn team(rt: &impl Print, t: Team, d: Days) -> io::Result<()> {
+// A team: its kind and channels, all that its tables hold, whichever kind it is, and its days. Classes in a row with one cap stand together.
+fn team(rt: &impl Print, t: Team, d: &Days) -> io::Result<()> {
     kind(rt, t.kind)?;
-    print::marked(rt, b" ", t.channels as u64)?;
+    print!(rt; " {}", t.channels)?;
     let cap = t.cap;
-    caps(rt, cap)?;
+    runs::show_each(&cap, |run| print!(rt; " {run}"))?;
     instruments(rt, t)?;
-    let bytes = t.days;
-    loan::team(rt, bytes, d)
+    loan::team(rt, t.days, d)
 }
 
 // The first n teams, and what stands in the place after them where there is one.
-fn teams(rt: &impl Print, n: usize, table: [Team; 12], days: [Days; 12]) -> io::Result<()> {
-    for k in 0..12usize {
-        if k <= n {
-            team(rt, table[k], days[k])?;
-        }
+fn teams(rt: &impl Print, n: usize, table: &[Team; 12], days: &[Days; 12]) -> io::Result<()> {
+    for (t, d) in table.iter().zip(days).take(n.saturating_add(1)) {
+        team(rt, *t, d)?;
     }
     Ok(())
 }
 
 // `REFUSED number place`, or `m n`, the shelf days, the glued instruments, and then each team, and the place after the last, after a semicolon.
-fn show(rt: &impl Print, r: Reading) -> io::Result<()> {
-    let shelf = r.shelf;
-    let days = r.days;
-    let glued = r.glue;
-    if r.refusal != 0 {
-        print::refusal(rt, r.refusal, r.place)?;
-        loan::refused(rt, shelf, days)?;
-        return glue::refused(rt, glued);
+fn show(rt: &impl Print, r: &Reading) -> io::Result<()> {
+    if let Err(refusal) = r.accepted() {
+        print!(rt; "{refusal}")?;
+        loan::refused(rt, &r.shelf, &r.days)?;
+        return glue::refused(rt, &r.glue);
     }
-    print::marked(rt, b"", r.m as u64)?;
-    print::marked(rt, b" ", r.n as u64)?;
-    loan::shelf(rt, shelf)?;
-    glue::show(rt, glued)?;
-    let table = r.teams;
-    teams(rt, r.n, table, days)
+    print!(rt; "{} {}", r.m, r.n)?;
+    loan::shelf(rt, &r.shelf)?;
+    glue::show(rt, &r.glue)?;
+    teams(rt, r.n, &r.teams, &r.days)
 }
 
 // Answers the verb.
 pub fn answer(rt: &impl Print, hex: &[u8]) -> io::Result<()> {
     let mut space = space::of_plan();
-    let k = lines::decode(hex, &mut space);
-    show(rt, plan::read(&space[..k]))
+    let r = plan::read(bytes::decoded(hex, &mut space));
+    show(rt, &r)
 }

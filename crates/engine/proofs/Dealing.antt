@@ -1,7 +1,7 @@
 -- What a set allows as a share, and the loop of the deal.
 use Prim.Native.Nat.{ℕ, ◌+◌, ◌*◌, ◌/◌, ◌≤◌, ◌<◌}
 use mathlib.Core.Path.{◌≡◌, refl, ap, ◌∙◌, subst, subst⁻¹, fun_ext}
-use mathlib.Core.Bool.{Bool, true, not}
+use mathlib.Core.Bool.{not}
 use mathlib.Core.Logic.{inl, inr}
 use mathlib.Core.List.{List}
 use native.Mathlib.Omega.{arith}
@@ -58,12 +58,11 @@ dealing_none m n v share all small some is_all = record {
 }
 
 module _ (m n : ℕ) (v : Valuation) (share p left : ℕ) (part : List ℕ) (d : Dealing m n v share p left part) where
-  -- the table is a cut into n parts, and each is worth the share where all are dealt
-  pub dealing_done : (whole : Bool) → (whole ≡ true → n ≤ p) → Dealt m n v share (record { whole = whole; part = part })
-  dealing_done whole all = record {
+  -- where all parts are dealt the table is a cut into n parts, each worth the share
+  pub dealing_done : n ≤ p → Dealt m n v share part
+  dealing_done all = record {
     below = d.below;
-    fair = λ e t l.
-        let reached = all e in
+    fair = λ t l.
         let worthy = d.fair t (omega arith) in
         let more = worth_mono (matroid_of m v) (inter_left (bundle (λ g. get_or part g 0) t) (complement (bit left))) in
         omega arith;

@@ -13,7 +13,7 @@ use Rattle.matroid.proofs.Sets.{size_le}
 use Rattle.matroid.proofs.Shares.{share_allowed}
 use Rattle.matroid.proofs.Present.{present_some}
 use Rattle.kinds.specs.declared.Valuation.{Valuation}
-use Rattle.sets.proofs.Lists.{get_d_any}
+use Rattle.std.proofs.lemmas.List.{get_or_default}
 use Rattle.kinds.specs.Valuations.{blank_valuation}
 use Rattle.holding.specs.declared.Holding.{Holding}
 use Rattle.exchange.specs.declared.Agents.{Agents}
@@ -54,7 +54,7 @@ module _ (s : Agents) (present : Set) (valid : ValidAgents s) (t : ℕ) (r : Lis
   })
     where
       own : v ≡ get_or s.valuations t blank_valuation
-      own = let few = valid.few in let long = valid.valuations_long in e ∙ get_d_any s.valuations t d blank_valuation (omega arith)
+      own = let few = valid.few in let long = valid.valuations_long in e ∙ get_or_default s.valuations t d blank_valuation (omega arith)
 
       at : (k : ℕ) → k < t + 1 → T (present k) → Dec (k ≡ t) → ShareOf s.m (size s.n present) (get_or s.valuations k blank_valuation) (get_or (set r t one) k no_share)
       at k b x (yes same) = let few = valid.few in let long = h.is.long in rw (same, get_or-set_same r t one no_share (omega arith), sym own, sym number) share

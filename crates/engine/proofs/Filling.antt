@@ -1,13 +1,16 @@
 -- The loops of `worthless` and of `fill`.
 use Prim.Native.Nat.{ℕ, ◌-◌, ◌≤◌, ◌<◌}
 use mathlib.Core.Path.{◌≡◌, sym, ap, ◌∙◌, subst, subst⁻¹}
-use mathlib.Core.Bool.{Bool, true, false, ◌&&◌, not, not-not}
+use mathlib.Core.Bool.{Bool, true, false, ◌&&◌, not, not-not, false≢true}
 use mathlib.Core.Logic.{inl, inr}
 use mathlib.Core.List.{List}
 use native.Mathlib.Omega.{arith}
 use native.Mathlib.Decide.{dec_lt}
 use lib.Dec.{T, ltb, ltb→lt, lt→ltb, T_not, not_T}
-use lib.ListN.{get_or}
+use lib.ListN.{length, take, get_or}
+use Rattle.std.proofs.Common.{Some, None, MatchBool, length-take, get_or-take}
+use Rattle.std.specs.Bool.{⊤}
+use Rattle.std.specs.List.{AllWithin, HoldsAt}
 use borrow.Author.Tests.{lt-ltb, le-ltb, ltb-false}
 use Rattle.matroid.specs.Taut.{decide_T, T→false, both, and_left, and_right}
 use Rattle.matroid.specs.Set.{Set, none, ◌∖◌, complement, under}
@@ -18,10 +21,10 @@ use Rattle.matroid.proofs.Sums.{sum_same, sum_const}
 use Rattle.matroid.proofs.Rank.{worth_same, worth_le_size}
 use Rattle.matroid.proofs.Certificates.{fill_certificate}
 use Rattle.sets.specs.Bits.{bit}
-use Rattle.sets.specs.Lowest.{Lowest}
+use Rattle.sets.proofs.Below.{none_there}
 use Rattle.sets.specs.Bundles.{Bundles}
 use Rattle.kinds.specs.declared.Valuation.{Valuation}
-use Rattle.kinds.specs.Valuations.{matroid_of}
+use Rattle.kinds.specs.Valuations.{matroid_of, blank_valuation}
 use Rattle.holding.specs.declared.Holding.{Holding}
 use Rattle.holding.specs.declared.Moves.{Moves}
 use Rattle.holding.specs.Give.{holder_of}
@@ -58,11 +61,11 @@ pub rest_low : (m word out rest : ℕ) → ((g : ℕ) → T (bit word g) → g <
 rest_low m word out rest low is-rest g t = low g (and_left (bit word g) _ (subst T (is-rest g) t))
 
 -- a set without members is worth nothing
-pub worthless_none : (s : Agents) (set low : ℕ) → s.m ≤ 64 → Lowest set low → 64 ≤ low → Worthless s set
-worthless_none s set low small least empty = record {
+pub worthless_none : (s : Agents) (set : ℕ) → set ≡ 0 → Worthless s set
+worthless_none s set empty = record {
   at = λ t _.
       let most = worth_le_size (agent_matroid s t) (bit set) in
-      let same = size_agree s.m (bit set) none (λ k l. T→false (bit set k) (least.least k (omega arith))) in
+      let same = size_agree s.m (bit set) none (λ k l. T→false (bit set k) (subst⁻¹ (λ (w : ℕ). T (not (bit w k))) empty (none_there k))) in
       let zero = size_none s.m in
       omega arith;
 }
@@ -70,6 +73,16 @@ worthless_none s set low small least empty = record {
 -- the worth that the code computes is the agent's
 pub agent_worth : (s : Agents) (set t r : ℕ) (v d : Valuation) → t < s.n → ValidAgents s → v ≡ get_or s.valuations t d → r ≡ worth (matroid_of s.m v) (bit set) → worth (agent_matroid s t) (bit set) ≡ r
 agent_worth s set t r v d l valid is-v e = sym (e ∙ ap (λ (M : Matroid s.m). worth M (bit set)) (agent_is s t v d l valid.few valid.valuations_long is-v))
+
+-- where the first n valuations give a set no worth, as `all` says, it is worth nothing to every agent
+pub worthless_all : (s : Agents) (set : ℕ) → ValidAgents s → (r : Bool)
+    → MatchBool r (AllWithin (λ v. worth (matroid_of s.m v) (bit set) ≡ 0) (take s.n s.valuations) 0 (length (take s.n s.valuations))) ((k : ℕ) × (k < length (take s.n s.valuations)) × HoldsAt (λ v. ⊤) (take s.n s.valuations) k)
+    → r ≡ true → Worthless s set
+worthless_all s set valid true all e = record {
+  at = λ t l. subst (λ (v : Valuation). worth (matroid_of s.m v) (bit set) ≡ 0) (get_or-take s.n s.valuations t blank_valuation l)
+      (all t blank_valuation (omega arith) (let few = valid.few in let long = valid.valuations_long in omega (arith, length-take s.n s.valuations)));
+}
+worthless_all s set valid false some e = absurd (false≢true e)
 
 -- where what is in the pool is worth nothing it bounds every total, since the agents hold the rest
 pub worthless_full : (s : Agents) (h : Holding) (pool : ℕ) → Held s h → Pool h pool → Worthless s pool → Full s h pool
@@ -87,17 +100,17 @@ worthless_full s h pool hd is-pool nothing = record {
 module _ (s : Agents) (h : Holding) (held : Held s h) (sources pool : ℕ) (is-sources : (j : ℕ) → bit sources j ≡ under s.n j) (is-pool : Pool h pool)
     (r : Reached) (out : Outcome s h.owner sources pool r) where
   -- a target is in the pool
-  pool_end : T (bit pool r.end) → s.n ≤ holder h.owner r.end
-  pool_end t =
-      let u = subst T (pool_word_lem s h held pool is-pool r.end) t in
-      ltb-false (holder h.owner r.end) s.n (T→false (ltb (holder h.owner r.end) s.n) (and_right (ltb r.end s.m) _ u))
+  pool_end : (g : ℕ) → T (bit pool g) → s.n ≤ holder h.owner g
+  pool_end g t =
+      let u = subst T (pool_word_lem s h held pool is-pool g) t in
+      ltb-false (holder h.owner g) s.n (T→false (ltb (holder h.owner g) s.n) (and_right (ltb g s.m) _ u))
 
   -- it was found, and the chain is carried out
-  module _ (some : 1 ≤ s.n) (found : r.found ≡ true) (moves : Moves) (back : Followed r.trace r.end moves) (after : Holding) (is : after ≡ chained h moves) where
-    advanced : Advanced s h sources r.end after
+  module _ (some : 1 ≤ s.n) (end : ℕ) (found : r.end ≡ Some end) (moves : Moves) (back : Followed r.trace end moves) (after : Holding) (is : after ≡ chained h moves) where
+    advanced : Advanced s h sources end after
     advanced =
-        let (reached, seen, _) = out.found found in
-        rw is (advances s h held sources r.trace r.end reached seen moves back 0 some (subst⁻¹ T (is-sources 0) (lt→ltb 0 s.n some)))
+        let (reached, seen, _) = out.found end found in
+        rw is (advances s h held sources r.trace end reached seen moves back 0 some (subst⁻¹ T (is-sources 0) (lt→ltb 0 s.n some)))
 
     -- the bundles stay independent
     pub fill_held : Held s after
@@ -110,12 +123,12 @@ module _ (s : Agents) (h : Holding) (held : Held s h) (sources pool : ℕ) (is-s
     -- and one more is given
     pub fill_less : s.m - given s after.owner < s.m - given s h.owner
     fill_less =
-        let more = given_more s h after sources r.end advanced (pool_end (out.found found).2) in
+        let more = given_more s h after sources end advanced (pool_end end (out.found end found).2) in
         let most = given_le s after.owner in
         omega arith
 
   -- none was found: what was reached bounds every total
-  pub fill_done : r.found ≡ false → (all k : ℕ) → ((j : ℕ) → bit all j ≡ under s.m j) → ((j : ℕ) → bit k j ≡ (bit all ∖ bit r.trace.seen) j) → Full s h k
+  pub fill_done : r.end ≡ None → (all k : ℕ) → ((j : ℕ) → bit all j ≡ under s.m j) → ((j : ℕ) → bit k j ≡ (bit all ∖ bit r.trace.seen) j) → Full s h k
   unfolding given
   fill_done none all k is_all is-k = record {
     held = held;

@@ -1,13 +1,16 @@
 -- The loop of `level`.
 use Prim.Native.Nat.{ℕ, ◌+◌, ◌*◌, ◌≤◌, ◌<◌}
 use mathlib.Core.Path.{◌≡◌, refl, sym, ap, ◌∙◌, subst, subst⁻¹}
-use mathlib.Core.Bool.{true, false, ◌||◌, not}
+use mathlib.Core.Bool.{◌||◌, not}
 use mathlib.Core.Logic.{inl, inr, ◌≢◌}
 use mathlib.Core.List.{List}
 use native.Mathlib.Omega.{arith}
 use native.Mathlib.Decide.{dec_lt, ℕ_discrete}
 use lib.Dec.{T, eqb→eq, ltb, ltb→lt, lt→ltb, T_not}
-use lib.ListN.{get_or}
+use lib.ListN.{length, take, get_or}
+use Rattle.std.proofs.Common.{Option, MatchOption, Some, None, length-take, get_or-take}
+use Rattle.std.specs.List.{AllWithin, HoldsAt, zip}
+use Rattle.std.proofs.lemmas.Slice.Zip.{length-zip, get_or-zip}
 use Rattle.matroid.specs.Taut.{decide_T, both, and_left, and_right, or_cases, follows₂}
 use Rattle.matroid.specs.Set.{Set, ◌∪◌, ◌∖◌, complement, only, size}
 use Rattle.matroid.specs.SetLaws.{one_eq, one_ne, eq→eqb}
@@ -26,7 +29,7 @@ use Rattle.exchange.specs.declared.search.Reached.{Reached}
 use Rattle.exchange.specs.Agents.{agent_matroid, holder, Ready, Held}
 use Rattle.exchange.specs.Search.{Outcome}
 use Rattle.engine.specs.Fill.{given}
-use Rattle.engine.specs.Level.{FirstShort, Above, Levellable, Levelled}
+use Rattle.engine.specs.Level.{FirstShort, LowestShort, Above, Levellable, Levelled}
 use Rattle.exchange.proofs.Advance.{Advanced}
 use Rattle.engine.proofs.Sizes.{held_size, held_shortfall, size_after, given_same}
 
@@ -61,22 +64,38 @@ module _ (sizes shares bundles : List ℕ) (n r : ℕ) (h : Above sizes shares b
     );
   }
 
+-- ---- the first short agent
+
+module _ (sizes shares : List ℕ) (n : ℕ) (long_sizes : length sizes ≡ 12) (long_shares : length shares ≡ 12) (few : n ≤ 12) where
+  abbrev pairs : List (ℕ × ℕ)
+  pairs = zip (take n sizes) (take n shares)
+
+  long : length pairs ≡ n
+  long = omega (arith, length-zip (take n sizes) (take n shares), length-take n sizes, length-take n shares)
+
+  pair : (t : ℕ) → t < n → get_or pairs t (0, 0) ≡ (get_or sizes t 0, get_or shares t 0)
+  pair t l = get_or-zip (take n sizes) (take n shares) t (0, 0) (omega (arith, length-take n sizes)) (omega (arith, length-take n shares)) ∙ rw (get_or-take n sizes t 0 l, get_or-take n shares t 0 l) refl
+
+  enough : (t : ℕ) → t < n → (get_or pairs t (0, 0)).1 ≤ (get_or pairs t (0, 0)).0 → get_or shares t 0 ≤ get_or sizes t 0
+  enough t l e = rw (pair t l) at e
+
+  -- what `position` says of the first pair with a smaller size
+  pub first_is : (r : Option ℕ)
+      → MatchOption r (AllWithin (λ (p : ℕ × ℕ). p.1 ≤ p.0) pairs 0 (length pairs)) (λ i. (i < length pairs) × HoldsAt (λ (p : ℕ × ℕ). p.0 < p.1) pairs i × AllWithin (λ (p : ℕ × ℕ). p.1 ≤ p.0) pairs 0 i)
+      → FirstShort sizes shares n r
+  first_is None all = λ t l. enough t l (all t (0, 0) (omega arith) (let e = long in omega arith))
+  first_is (Some i) (l, short, before) =
+      let below : i < n = let e = long in omega arith in
+      record {
+        below = below;
+        before = λ t b. enough t (omega arith) (before t (0, 0) (omega arith) b);
+        short = rw (pair i below) at (short (0, 0));
+      }
+
 -- ---- one chain
 
--- where there is a shortfall, the first short agent is one
-pub short_agent : (s : Agents) (h : Holding) → Held s h → (i : ℕ) → FirstShort h.sizes h.shares s.n i → h.shortfall ≢ 0 → i < s.n
-short_agent s h held i first some = elim (dec_lt i s.n) [
-  | yes l ↦ l
-  | no d ↦
-      absurd (some (held_shortfall s h held ∙ (shortfall_none s.n (λ t. get_or h.shares t 0) (λ t. size s.m (bundle (holder h.owner) t))).1 (λ t l.
-      let top = first.top in
-      let e = held_size s h held t l in
-      let most = first.before t (omega arith) in
-      omega arith)))
-]
-
-module _ (s : Agents) (h : Holding) (held : Held s h) (bundles : List ℕ) (ready : Ready s h.owner bundles) (i only-i rich : ℕ) (first : FirstShort h.sizes h.shares s.n i)
-    (some : h.shortfall ≢ 0) (is-only : (j : ℕ) → bit only-i j ≡ only i j) (is-rich : Above h.sizes h.shares bundles s.n rich) (r : Reached) (out : Outcome s h.owner only-i rich r) where
+module _ (s : Agents) (h : Holding) (held : Held s h) (bundles : List ℕ) (ready : Ready s h.owner bundles) (i only-i rich : ℕ) (first : LowestShort h.sizes h.shares s.n i)
+    (is-only : (j : ℕ) → bit only-i j ≡ only i j) (is-rich : Above h.sizes h.shares bundles s.n rich) (r : Reached) (out : Outcome s h.owner only-i rich r) where
   abbrev D : ℕ → ℕ
   D = holder h.owner
 
@@ -84,13 +103,12 @@ module _ (s : Agents) (h : Holding) (held : Held s h) (bundles : List ℕ) (read
   pub source_only : T (bit only-i i)
   source_only = subst⁻¹ T (is-only i) (eq→eqb i i refl)
 
-  -- where there is a shortfall an agent is short
-  pub li : i < s.n
-  li = short_agent s h held i first some
+  li : i < s.n
+  li = first.below
 
   -- agent i is short
   is_short : size s.m (bundle D i) < get_or h.shares i 0
-  is_short = let e = held_size s h held i li in let l = first.short li in omega arith
+  is_short = let e = held_size s h held i li in let l = first.short in omega arith
 
   -- a target of the search is held by an agent above its share
   rich_agent : (g : ℕ) → T (bit rich g) → (g < s.m) × (D g < s.n) × (get_or h.shares (D g) 0 < size s.m (bundle D (D g)))
@@ -117,7 +135,7 @@ module _ (s : Agents) (h : Holding) (held : Held s h) (bundles : List ℕ) (read
   short_present present none = elim (decide_T (present i)) [ inl here ↦ here | inr away ↦ let zero = none i li away in let less = is_short in absurd (omega arith) ]
 
   -- where the total is greatest a chain is found
-  pub level_stuck : (start : Holding) → Levellable s start → h.shares ≡ start.shares → given s h.owner ≡ given s start.owner → r.found ≡ false → ⊥
+  pub level_stuck : (start : Holding) → Levellable s start → h.shares ≡ start.shares → given s h.owner ≡ given s start.owner → r.end ≡ None → ⊥
   unfolding given
   level_stuck start able shares same none =
       let present = able.present in
@@ -136,17 +154,17 @@ module _ (s : Agents) (h : Holding) (held : Held s h) (bundles : List ℕ) (read
       R : Set
       R = S ∖ bit able.bound
 
-  module _ (found : r.found ≡ true) (after : Holding) (a : Advanced s h only-i r.end after) where
+  module _ (end : ℕ) (found : r.end ≡ Some end) (after : Holding) (a : Advanced s h only-i end after) where
     -- the chain is from agent i to an agent above its target
     from_i : a.agent ≡ i
     from_i = eqb→eq a.agent i (subst T (is-only a.agent) a.source)
 
     -- whoever held the end is above its share
-    rich_end : (r.end < s.m) × (D r.end < s.n) × (get_or h.shares (D r.end) 0 < size s.m (bundle D (D r.end)))
-    rich_end = rich_agent r.end (out.found found).2
+    rich_end : (end < s.m) × (D end < s.n) × (get_or h.shares (D end) 0 < size s.m (bundle D (D end)))
+    rich_end = rich_agent end (out.found end found).2
 
     -- so it is not agent i
-    two : D r.end ≢ i
+    two : D end ≢ i
     two e =
         let more = subst (λ (x : ℕ). get_or h.shares x 0 < size s.m (bundle D x)) e rich_end.2 in
         let less = is_short in
@@ -154,30 +172,30 @@ module _ (s : Agents) (h : Holding) (held : Held s h) (bundles : List ℕ) (read
 
     -- so as many are given as before
     pub level_same : given s after.owner ≡ given s h.owner
-    level_same = given_same s h after only-i r.end a rich_end.1
+    level_same = given_same s h after only-i end a rich_end.1
 
     -- agent i has one more
     gains : size s.m (bundle (holder after.owner) i) ≡ size s.m (bundle D i) + 1
     gains =
-        let c = size_after s h after only-i r.end a i in
+        let c = size_after s h after only-i end a i in
         let to = one_eq a.agent i from_i in
-        let from = one_ne (D r.end) i two in
+        let from = one_ne (D end) i two in
         omega arith
 
     -- the other one fewer
-    loses : size s.m (bundle (holder after.owner) (D r.end)) + 1 ≡ size s.m (bundle D (D r.end))
+    loses : size s.m (bundle (holder after.owner) (D end)) + 1 ≡ size s.m (bundle D (D end))
     loses =
-        let c = size_after s h after only-i r.end a (D r.end) in
-        let to = one_ne a.agent (D r.end) (λ e. two (sym e ∙ from_i)) in
-        let from = one_eq (D r.end) (D r.end) refl in
+        let c = size_after s h after only-i end a (D end) in
+        let to = one_ne a.agent (D end) (λ e. two (sym e ∙ from_i)) in
+        let from = one_eq (D end) (D end) refl in
         omega arith
 
     -- and nobody else another number
-    keeps : OnlyAtTwo s.n (λ t. size s.m (bundle D t)) (λ t. size s.m (bundle (holder after.owner) t)) i (D r.end)
+    keeps : OnlyAtTwo s.n (λ t. size s.m (bundle D t)) (λ t. size s.m (bundle (holder after.owner) t)) i (D end)
     keeps t _ di dj =
-        let c = size_after s h after only-i r.end a t in
+        let c = size_after s h after only-i end a t in
         let to = one_ne a.agent t (λ e. di (sym e ∙ from_i)) in
-        let from = one_ne (D r.end) t (λ e. dj (sym e)) in
+        let from = one_ne (D end) t (λ e. dj (sym e)) in
         omega arith
 
     -- A chain of levelling lowers the shortfall by exactly one.
@@ -185,8 +203,16 @@ module _ (s : Agents) (h : Holding) (held : Held s h) (bundles : List ℕ) (read
     level_falls =
         let before = held_shortfall s h held in
         let now = held_shortfall s after a.held ∙ ap (λ (row : List ℕ). shortfall s.n (λ t. get_or row t 0) (λ t. size s.m (bundle (holder after.owner) t))) a.shares in
-        let falls = shortfall_falls s.n (λ t. get_or h.shares t 0) (λ t. size s.m (bundle D t)) (λ t. size s.m (bundle (holder after.owner) t)) i (D r.end) li rich_end.1 keeps gains loses is_short rich_end.2 in
+        let falls = shortfall_falls s.n (λ t. get_or h.shares t 0) (λ t. size s.m (bundle D t)) (λ t. size s.m (bundle (holder after.owner) t)) i (D end) li rich_end.1 keeps gains loses is_short rich_end.2 in
         omega arith
+
+-- where nobody is short the shortfall is 0
+pub nobody_short : (s : Agents) (h : Holding) → Held s h → ((t : ℕ) → t < s.n → get_or h.shares t 0 ≤ get_or h.sizes t 0) → h.shortfall ≡ 0
+nobody_short s h held met =
+    held_shortfall s h held ∙ (shortfall_none s.n (λ t. get_or h.shares t 0) (λ t. size s.m (bundle (holder h.owner) t))).1 (λ t l.
+    let e = held_size s h held t l in
+    let most = met t l in
+    omega arith)
 
 -- where the shortfall is 0 the holding is levelled
 pub level_done : (s : Agents) (start h : Holding) → Held s h → h.shortfall ≡ 0 → h.shares ≡ start.shares → given s h.owner ≡ given s start.owner → Levelled s start h

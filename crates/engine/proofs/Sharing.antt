@@ -22,7 +22,7 @@ use Rattle.matroid.proofs.Duality.{weak_duality}
 use Rattle.matroid.proofs.Shares.{share_most, share_bound}
 use Rattle.sets.specs.Bits.{bit}
 use Rattle.kinds.specs.declared.Valuation.{Valuation}
-use Rattle.sets.proofs.Lists.{get_d_any}
+use Rattle.std.proofs.lemmas.List.{get_or_default}
 use Rattle.holding.specs.declared.Holding.{Holding}
 use Rattle.holding.specs.Give.{measured_by}
 use Rattle.holding.proofs.Counting.{counted_right}
@@ -172,7 +172,7 @@ module _ (m n : ℕ) (v : Valuation) (small : m ≤ 64) (some : 1 ≤ n) (few : 
     cut_of g = get_or part g 0
 
     owner_at : (g : ℕ) → g < m → get_or h.owner g 0 ≡ holder h.owner g
-    owner_at g l = let long = levelled.held.owner_long in get_d_any h.owner g 0 255 (omega arith)
+    owner_at g l = let long = levelled.held.owner_long in get_or_default h.owner g 0 255 (omega arith)
 
     below : (g : ℕ) → g < m → cut_of g < n
     below g l = elim (dec_lt (get_or h.owner g 0) n) [

@@ -1,5 +1,5 @@
 -- What levelling comes to.
-use Rattle.std.specs.Prelude.{ℕ, ◌+◌, ◌*◌, ◌≤◌, ◌<◌, ◌≡◌, not, ◌↔◌, List, T, get_or}
+use Rattle.std.specs.Prelude.{ℕ, ◌+◌, ◌*◌, ◌≤◌, ◌<◌, ◌≡◌, not, ◌↔◌, List, T, get_or, Option, MatchOption}
 use Rattle.matroid.specs.Set.{Set, complement, size}
 use Rattle.matroid.specs.Matroid.{worth}
 use Rattle.matroid.specs.Division.{bundle}
@@ -9,11 +9,15 @@ use Rattle.exchange.specs.declared.Agents.{Agents}
 use Rattle.exchange.specs.Agents.{agent_matroid, holder, Held}
 use Rattle.engine.specs.Fill.{given, Full}
 
--- r is the lowest agent below n whose size is smaller than its share, or n
-pub record FirstShort (sizes shares : List ℕ) (n r : ℕ) : Type 0 where
-  pub top : r ≤ n
-  pub before : (t : ℕ) → t < r → get_or shares t 0 ≤ get_or sizes t 0
-  pub short : r < n → get_or sizes r 0 < get_or shares r 0
+-- i is the lowest agent below n whose size is smaller than its share
+pub record LowestShort (sizes shares : List ℕ) (n i : ℕ) : Type 0 where
+  pub below : i < n
+  pub before : (t : ℕ) → t < i → get_or shares t 0 ≤ get_or sizes t 0
+  pub short : get_or sizes i 0 < get_or shares i 0
+
+-- r is the lowest agent below n whose size is smaller than its share, or none where no size is
+abbrev pub FirstShort : (sizes shares : List ℕ) (n : ℕ) → Option ℕ → Type 0
+FirstShort sizes shares n r = MatchOption r ((t : ℕ) → t < n → get_or shares t 0 ≤ get_or sizes t 0) (LowestShort sizes shares n)
 
 -- r holds the words of the agents below n whose sizes are larger than their shares
 pub record Above (sizes shares bundles : List ℕ) (n r : ℕ) : Type 0 where

@@ -1,5 +1,5 @@
 // A share without a search: a number that no share exceeds, and a deal that gives every part as much.
-ghost use Rattle.std.specs.Prelude.{◌≤◌};
+ghost use Rattle.std.specs.Prelude.{◌≤◌, IfSome};
 ghost use Rattle.engine.specs.Deal.{Allowed, QuotaOf, Dealt};
 
 use kinds::Valuation;
@@ -29,38 +29,33 @@ pub fn quota_of(v: Valuation, m: usize, n: usize) -> Quota
     let whole = allowed(v, m, n, instruments);
     let even = allowed(v, m, n, unusable);
     if whole < even {
-        return Quota {
+        Quota {
             share: whole,
             bound: instruments,
-        };
-    }
-    Quota {
-        share: even,
-        bound: unusable,
+        }
+    } else {
+        Quota {
+            share: even,
+            bound: unusable,
+        }
     }
 }
 
-// A cut into parts, and whether each part was seen to be worth a share.
-#[derive(Clone, Copy)]
-pub struct Deal {
-    pub whole: bool,
-    pub part: [u8; 64],
-}
-
-// Each of n parts in turn takes what it can of what is left, at most the share. What nobody takes is in part 0.
-pub fn dealt(v: Valuation, m: usize, n: usize, share: usize) -> Deal
+// A cut into parts that are each worth a share, where dealing gives one: each of n parts in turn takes what it can of what is left, at most the
+// share. What nobody takes is in part 0.
+pub fn dealt(v: Valuation, m: usize, n: usize, share: usize) -> Option<[u8; 64]>
     requires { (m ≤ 64) × (1 ≤ n) × (n ≤ 12) }
-    ensures { Dealt m n v share result }
+    ensures { IfSome result (Dealt m n v share) }
 {
     let mut left = sets::all_below(m);
     let mut part = [0u8; 64];
     for p in 0..n {
         let bundle = kinds::grown(v, m, 0, left, share);
         if sets::size(bundle) < share {
-            return Deal { whole: false, part };
+            return None;
         }
         sets::assign(&mut part, bundle, p as u8);
         left = sets::minus(left, bundle);
     }
-    Deal { whole: true, part }
+    Some(part)
 }

@@ -20,24 +20,21 @@ pub struct Division {
 }
 
 // The share of each agent that is present, among those present.
+// Kept (point 1): `AllShares` says 0 of an agent that is away, as its page on the sheet does (note 2).
 fn all_shares(s: Agents, here: u64) -> [Shared; 12]
     requires { ValidAgents s }
     ensures { AllShares s (bit here) s.n result }
 {
-    let m = s.m;
-    let n = s.n;
-    let p = sets::size_below(n, here);
-    let valuations = s.valuations;
+    let p = sets::size_below(s.n, here);
     let none = Shared {
         share: 0,
         bound: 0,
         part: [0u8; 64],
     };
     let mut shares = [none; 12];
-    for t in 0..n {
+    for (t, v) in s.valuations[..s.n].iter().enumerate() {
         if sets::member(here, t) {
-            let v = valuations[t];
-            let one = share_of(v, m, p);
+            let one = share_of(*v, s.m, p);
             shares[t] = one;
         }
     }
@@ -50,8 +47,7 @@ fn targets_of(shares: [Shared; 12], n: usize) -> [u8; 12]
     ensures { Targets shares n result }
 {
     let mut targets = [0u8; 12];
-    for t in 0..n {
-        let one = shares[t];
+    for (t, one) in shares[..n].iter().enumerate() {
         targets[t] = one.share;
     }
     targets
@@ -66,12 +62,10 @@ pub fn divide(s: Agents, here: u64) -> Division
     let shares = all_shares(s, here);
     let targets = targets_of(shares, s.n);
     let f = fill(s, targets);
-    let start = f.holding;
-    let bound = f.bound;
-    let holding = level(s, start);
+    let holding = level(s, f.holding);
     Division {
         holding,
-        bound,
+        bound: f.bound,
         shares,
     }
 }

@@ -20,19 +20,10 @@ fn worthless(s: Agents, set: u64) -> bool
     requires { ValidAgents s }
     ensures { result ≡ true → Worthless s set }
 {
-    if sets::lowest(set) >= 64 {
-        return true;
-    }
-    let m = s.m;
-    let n = s.n;
-    let valuations = s.valuations;
-    for t in 0..n {
-        let v = valuations[t];
-        if kinds::worth_of(v, m, set) != 0 {
-            return false;
-        }
-    }
-    true
+    set == 0
+        || s.valuations[..s.n]
+            .iter()
+            .all(|v| kinds::worth_of(*v, s.m, set) == 0)
 }
 
 // A holding of greatest total among the agents, with its certificate, measured against the quotas. They decide nothing but the start.
@@ -40,7 +31,6 @@ pub fn fill(s: Agents, quotas: [u8; 12]) -> Filled
     requires { ValidAgents s }
     ensures { Full s result.holding result.bound × (result.holding.shares ≡ quotas) }
 {
-    let m = s.m;
     let sources = sets::all_below(s.n);
     let mut h = greedy(s, quotas);
     loop {
@@ -51,14 +41,11 @@ pub fn fill(s: Agents, quotas: [u8; 12]) -> Filled
                 bound: pool,
             };
         }
-        let owner = h.owner;
-        let r = search(s, owner, h.bundles(), sources, pool);
-        let trace = r.trace;
-        let end = r.end;
-        if !r.found {
-            let bound = sets::minus(sets::all_below(m), trace.seen);
+        let r = search(s, h.owner, h.bundles(), sources, pool);
+        let Some(end) = r.end else {
+            let bound = sets::minus(sets::all_below(s.m), r.trace.seen);
             return Filled { holding: h, bound };
-        }
-        h = h.chain(moves_back(trace, end));
+        };
+        h = h.chain(moves_back(r.trace, end));
     }
 }

@@ -26,30 +26,23 @@ fn round(s: Agents, start: Offer, most: u8) -> Offer
     requires { Offered s start.owner start.bundles start.pool }
     ensures { Offered s result.owner result.bundles result.pool }
 {
-    let m = s.m;
-    let n = s.n;
-    let valuations = s.valuations;
-    let quotas = start.quotas;
     let mut pool = start.pool;
-    if sets::lowest(pool) >= 64 {
+    if pool == 0 {
         return start;
     }
     let mut bundles = start.bundles;
     let mut owner = start.owner;
     let mut next = [0u8; 12];
-    for t in 0..n {
-        let v = valuations[t];
+    for (t, v) in s.valuations[..s.n].iter().enumerate() {
         let bundle = bundles[t];
-        let quota = quotas[t];
-        let larger = kinds::grown(v, m, bundle, pool, sets::wide(quota));
+        let quota = start.quotas[t];
+        let larger = kinds::grown(*v, s.m, bundle, pool, sets::wide(quota));
         let fresh = sets::minus(larger, bundle);
         sets::assign(&mut owner, fresh, t as u8);
         bundles[t] = larger;
         pool = sets::minus(pool, fresh);
-        if quota < most {
-            if sets::size(fresh) >= sets::wide(quota) {
-                next[t] = most - quota;
-            }
+        if quota < most && sets::size(fresh) >= sets::wide(quota) {
+            next[t] = most - quota;
         }
     }
     Offer {
@@ -66,8 +59,8 @@ fn sizes_of(bundles: [u64; 12], n: usize) -> [u8; 12]
     ensures { result ≡ table n (λ t. size 64 (bit (get_or bundles t 0))) }
 {
     let mut sizes = [0u8; 12];
-    for t in 0..n {
-        sizes[t] = sets::size(bundles[t]) as u8;
+    for (t, bundle) in bundles[..n].iter().enumerate() {
+        sizes[t] = sets::size(*bundle) as u8;
     }
     sizes
 }
@@ -78,19 +71,16 @@ pub fn greedy(s: Agents, quotas: [u8; 12]) -> Holding
     requires { ValidAgents s }
     ensures { Held s result × (result.shares ≡ quotas) }
 {
-    let m = s.m;
-    let n = s.n;
     let start = Offer {
         owner: [255u8; 64],
         bundles: [0u64; 12],
-        pool: sets::all_below(m),
+        pool: sets::all_below(s.m),
         quotas,
     };
-    let even = (m / n + 1) as u8;
+    let even = (s.m / s.n + 1) as u8;
     let first = round(s, start, even);
     let second = round(s, first, 64);
     let third = round(s, second, 0);
-    let owner = third.owner;
-    let bundles = third.bundles;
-    Holding::of(m, n, owner, quotas, sizes_of(bundles, n))
+    let sizes = sizes_of(third.bundles, s.n);
+    Holding::of(s.m, s.n, third.owner, quotas, sizes)
 }

@@ -1,4 +1,5 @@
 // The engine: from agents, each with a valuation, to a division of greatest total in which nobody is short, with certificates.
+// Kept (point 5): `ValidAgents` stands in each contract, as `Ready` does in `exchange`.
 #![tactic(auto)]
 
 pub mod deal;

@@ -23,10 +23,9 @@ fn parts(owner: [u8; 64], m: usize, n: usize) -> [u8; 64]
     ensures { Parted owner n m result }
 {
     let mut part = [0u8; 64];
-    for g in 0..m {
-        let t = owner[g];
-        if (t as usize) < n {
-            part[g] = t;
+    for (g, t) in owner[..m].iter().enumerate() {
+        if (*t as usize) < n {
+            part[g] = *t;
         }
     }
     part
@@ -44,12 +43,14 @@ fn searched(v: Valuation, m: usize, n: usize, quota: u8) -> Shared
     };
     let f = fill(s, [quota; 12]);
     let h = f.holding;
-    let bound = f.bound;
     let share = (h.total() / n) as u8;
     let levelled = level(s, h.measured([share; 12]));
-    let owner = levelled.owner;
-    let part = parts(owner, m, n);
-    Shared { share, bound, part }
+    let part = parts(levelled.owner, m, n);
+    Shared {
+        share,
+        bound: f.bound,
+        part,
+    }
 }
 
 // The share of a valuation among n, with its certificates.
@@ -59,11 +60,12 @@ pub fn share_of(v: Valuation, m: usize, n: usize) -> Shared
 {
     let q = quota_of(v, m, n);
     let share = q.share as u8;
-    let bound = q.bound;
-    let d = dealt(v, m, n, q.share);
-    let part = d.part;
-    if d.whole {
-        return Shared { share, bound, part };
+    match dealt(v, m, n, q.share) {
+        Some(part) => Shared {
+            share,
+            bound: q.bound,
+            part,
+        },
+        None => searched(v, m, n, share),
     }
-    searched(v, m, n, share)
 }

@@ -1,18 +1,20 @@
 -- The loops of `search`.
 use Prim.Native.Nat.{ℕ, suc, ◌+◌, ◌≤◌, ◌<◌}
 use mathlib.Core.Path.{◌≡◌, refl, sym, ap, ◌∙◌, subst, subst⁻¹}
-use mathlib.Core.Bool.{Bool, true, false, ◌&&◌, ◌||◌, not, true≢false, false≢true}
+use mathlib.Core.Bool.{Bool, true, false, ◌&&◌, ◌||◌, not}
 use mathlib.Core.Logic.{◌⊎◌, inl, inr, ◌↔◌}
 use mathlib.Core.List.{List}
 use native.Mathlib.Omega.{arith}
 use native.Mathlib.Decide.{ℕ_discrete}
 use lib.Dec.{T, eqb, T_not, not_T}
-use borrow.Author.Tests.{lt-ltb, le-ltb}
+use borrow.Author.Tests.{eq-eqb}
+use Rattle.std.proofs.Common.{Some, None}
+use Rattle.std.proofs.lemmas.Option.{same_Some, none-some}
 use lib.ListN.{length, get_or, set, length-set}
 use lib.Seq.{get_or-set_same, get_or-set_other}
 use Rattle.matroid.specs.Taut.{decide_T, both as both_of, and_left, and_right, follows₂}
 use Rattle.matroid.specs.Set.{Set, ◌∩◌, with, without, size}
-use Rattle.matroid.specs.SetLaws.{with_cases, with_new, with_old, size_with, size_same, differ}
+use Rattle.matroid.specs.SetLaws.{with_cases, with_new, with_old, size_with, size_same, differ, ne→eqb}
 use Rattle.matroid.specs.Matroid.{Matroid}
 use Rattle.matroid.specs.Division.{bundle, move}
 use Rattle.matroid.specs.DivisionLaws.{move_here, move_away}
@@ -22,8 +24,9 @@ use Rattle.matroid.proofs.Waves.{Wave, wave_traced, wave_closed, wave_gains, wav
 use Rattle.sets.specs.Bits.{bit}
 use Rattle.sets.proofs.Below.{none_there}
 use Rattle.sets.specs.Lowest.{Lowest}
+use Rattle.sets.specs.Next.{Taken}
 use Rattle.kinds.specs.declared.Valuation.{Valuation}
-use Rattle.sets.proofs.Lists.{get_d_any}
+use Rattle.std.proofs.lemmas.List.{get_or_default}
 use Rattle.kinds.specs.Valuations.{matroid_of}
 use Rattle.exchange.specs.declared.Agents.{Agents}
 use Rattle.exchange.specs.declared.search.Trace.{Trace}
@@ -153,28 +156,26 @@ set_move l x v k b = elim (ℕ_discrete k x) [
   | no d ↦ get_or-set_other l x k v 0 d ∙ sym (move_away (λ j. get_or l j 0) x v k d)
 ]
 
--- g is being scanned: of the fresh numbers, those below x are reached, and the others can take its place
-pub record Scanning (s : Agents) (owner : List ℕ) (sources target : ℕ) (trace : Trace) (scanned todo g fresh x : ℕ) : Type 0 where
+-- g is being scanned: what is left can take its place, and all else that can is reached
+pub record Scanning (s : Agents) (owner : List ℕ) (sources target : ℕ) (trace : Trace) (scanned todo g left : ℕ) : Type 0 where
   pub going : Going s owner sources target trace scanned todo
   pub member : T (bit todo g)
-  pub passed : (k : ℕ) → T (bit fresh k) → k < x → T (bit trace.seen k)
-  pub ahead : (k : ℕ) → T (bit fresh k) → x ≤ k → T (not (bit trace.seen k)) × (k < s.m) × Edge s.n (agent_matroid s) (holder owner) g k
-  pub leads : (k : ℕ) → k < s.m → Edge s.n (agent_matroid s) (holder owner) g k → T (bit trace.seen k) ⊎ T (bit fresh k)
+  pub ahead : (k : ℕ) → T (bit left k) → T (not (bit trace.seen k)) × (k < s.m) × Edge s.n (agent_matroid s) (holder owner) g k
+  pub leads : (k : ℕ) → k < s.m → Edge s.n (agent_matroid s) (holder owner) g k → T (bit trace.seen k) ⊎ T (bit left k)
 
 module _ (s : Agents) (owner bundles : List ℕ) (ready : Ready s owner bundles) (sources target : ℕ) (trace : Trace) (scanned todo g fresh : ℕ) where
   -- the exchanges of an instrument that an agent holds
   scan_start : (t : ℕ) (v d : Valuation) → Going s owner sources target trace scanned todo → T (bit todo g) → g < 64 → t ≡ get_or owner g 0 → t < s.n → v ≡ get_or s.valuations t d
-      → Exchanges s.m v (get_or bundles t 0) g trace.seen fresh → Scanning s owner sources target trace scanned todo g fresh 0
+      → Exchanges s.m v (get_or bundles t 0) g trace.seen fresh → Scanning s owner sources target trace scanned todo g fresh
   scan_start t v d go og lg is-t l e ex = record {
     going = go;
     member = og;
-    passed = λ k f b. absurd (omega arith);
-    ahead = λ k f _. let (b, new, sw) = (at k).0 f in (new, b, edge k b sw);
+    ahead = λ k f. let (b, new, sw) = (at k).0 f in (new, b, edge k b sw);
     leads = λ k b e. elim (decide_T (bit trace.seen k)) [ inl old ↦ inl old | inr new ↦ inr ((at k).1 (b, new, swaps k b e)) ];
   }
     where
       holds : holder owner g ≡ t
-      holds = let long = ready.owner_long in sym (is-t ∙ get_d_any owner g 0 255 (omega arith))
+      holds = let long = ready.owner_long in sym (is-t ∙ get_or_default owner g 0 255 (omega arith))
 
       same : matroid_of s.m v ≡ agent_matroid s t
       same = agent_is s t v d l ready.few ready.valuations_long e
@@ -193,54 +194,35 @@ module _ (s : Agents) (owner bundles : List ℕ) (ready : Ready s owner bundles)
 
   -- an instrument of the pool leads nowhere
   scan_pool : (t : ℕ) → Going s owner sources target trace scanned todo → T (bit todo g) → g < 64 → t ≡ get_or owner g 0 → s.n ≤ t → fresh ≡ 0
-      → Scanning s owner sources target trace scanned todo g fresh 0
+      → Scanning s owner sources target trace scanned todo g fresh
   scan_pool t go og lg is-t l e = record {
     going = go;
     member = og;
-    passed = λ k f b. absurd (omega arith);
-    ahead = λ k f _. absurd (T_not (bit 0 k) (none_there k) (rw e at f));
-    leads = λ k b e. let long = ready.owner_long in let same = get_d_any owner g 0 255 (omega arith) in let known = e.0 in absurd (omega arith);
+    ahead = λ k f. absurd (T_not (bit 0 k) (none_there k) (rw e at f));
+    leads = λ k b e. let long = ready.owner_long in let same = get_or_default owner g 0 255 (omega arith) in let known = e.0 in absurd (omega arith);
   }
 
-  -- the scan of g starts at the least fresh number: below it there is nothing to reach
-  pub scan_enter : (todo₀ t low : ℕ) → Going s owner sources target trace scanned todo₀ → Rest todo₀ trace.seen scanned todo → Lowest todo g → g < 64 → t ≡ get_or owner g 0
+  -- the scan of g starts with all that is fresh
+  pub scan_enter : (todo₀ t : ℕ) → Going s owner sources target trace scanned todo₀ → Rest todo₀ trace.seen scanned todo → Lowest todo g → g < 64 → t ≡ get_or owner g 0
       → ((v : Valuation) × (d : Valuation) × (r : ℕ) × (t < s.n) × (v ≡ get_or s.valuations t d) × Exchanges s.m v (get_or bundles t 0) g trace.seen r × (fresh ≡ r)) ⊎ ((s.n ≤ t) × (fresh ≡ 0))
-      → Lowest fresh low → Scanning s owner sources target trace scanned todo g fresh low
-  scan_enter todo₀ t low go rest lowest lg is-t came least = record {
-    going = sc.going;
-    member = sc.member;
-    passed = λ k f b. absurd (T_not (bit fresh k) (least.least k b) f);
-    ahead = λ k f _. sc.ahead k f (omega arith);
-    leads = sc.leads;
-  }
+      → Scanning s owner sources target trace scanned todo g fresh
+  scan_enter todo₀ t go rest lowest lg is-t came = elim came [
+    | inl (v, d, r, l, e, ex, same) ↦ scan_start t v d next (lowest.member lg) lg is-t l e (rw same ex)
+    | inr (l, none) ↦ scan_pool t next (lowest.member lg) lg is-t l none
+  ]
     where
       next : Going s owner sources target trace scanned todo
       next = going_rest s owner bundles ready sources target trace scanned todo₀ go todo rest
 
-      sc : Scanning s owner sources target trace scanned todo g fresh 0
-      sc = elim came [
-        | inl (v, d, r, l, e, ex, same) ↦ scan_start t v d next (lowest.member lg) lg is-t l e (rw same ex)
-        | inr (l, none) ↦ scan_pool t next (lowest.member lg) lg is-t l none
-      ]
-
-  module _ (x : ℕ) (sc : Scanning s owner sources target trace scanned todo g fresh x) where
-    -- any other number is passed over
-    pub scan_skip : bit fresh x ≡ false → Scanning s owner sources target trace scanned todo g fresh (x + 1)
-    scan_skip e = record {
-      going = sc.going;
-      member = sc.member;
-      passed = λ k f b. elim (ℕ_discrete k x) [ yes same ↦ absurd (subst T (ap (bit fresh) same ∙ e) f) | no d ↦ sc.passed k f (omega arith) ];
-      ahead = λ k f b. sc.ahead k f (omega arith);
-      leads = sc.leads;
-    }
-
-    -- a fresh number is reached
-    module _ (t : ℕ) (after : Trace) (lg : g < 64) (is-t : t ≡ get_or owner g 0) (f : bit fresh x ≡ true) (mark : Marked trace x g t after) where
+  -- `fresh` is what is left
+  module _ (sc : Scanning s owner sources target trace scanned todo g fresh) where
+    -- its least number is reached
+    module _ (x left : ℕ) (taken : Taken fresh x left) (t : ℕ) (after : Trace) (lg : g < 64) (is-t : t ≡ get_or owner g 0) (mark : Marked trace x g t after) where
       level' : ℕ → ℕ
       level' = move sc.going.level x (sc.going.depth + 1)
 
       new : T (not (bit trace.seen x)) × (x < s.m) × Edge s.n (agent_matroid s) (holder owner) g x
-      new = sc.ahead x (subst⁻¹ T f tt) (omega arith)
+      new = sc.ahead x (taken.low.member taken.some)
 
       marked_wave : Wave s.n (agent_matroid s) (holder owner) (bit sources) (bit after.seen) (bit scanned) (bit todo) (labels_of level' after) sc.going.depth
       unfolding level'
@@ -253,7 +235,7 @@ module _ (s : Agents) (owner bundles : List ℕ) (ready : Ready s owner bundles)
           wave_mark s.n (agent_matroid s) (holder owner) (bit sources) (bit trace.seen) (bit scanned) (bit todo) (labels_of sc.going.level trace) sc.going.depth sc.going.wave
           x g (bit after.seen) (labels_of (move sc.going.level x (sc.going.depth + 1)) after) sc.member lx new.0 new.2 mark.seen (λ k. refl)
           (λ k. ap (λ (l : List ℕ). get_or l k 0) mark.parent ∙ set_move trace.parent x g k (omega arith))
-          (λ k. ap (λ (l : List ℕ). get_or l k 0) mark.to ∙ set_move trace.to x t k (omega arith) ∙ ap (λ (v : ℕ). move (λ j. get_or trace.to j 0) x v k) (is-t ∙ get_d_any owner g 0 255 (omega arith)))
+          (λ k. ap (λ (l : List ℕ). get_or l k 0) mark.to ∙ set_move trace.to x t k (omega arith) ∙ ap (λ (v : ℕ). move (λ j. get_or trace.to j 0) x v k) (is-t ∙ get_or_default owner g 0 255 (omega arith)))
 
       marked_roots : (k : ℕ) → T (bit after.seen k) → level' k ≡ 0 → get_or after.parent k 0 ≡ 255
       unfolding level'
@@ -283,7 +265,7 @@ module _ (s : Agents) (owner bundles : List ℕ) (ready : Ready s owner bundles)
       kept k old = subst⁻¹ T (mark.seen k) ((with_old {m = suc k} (bit trace.seen) x).at k (omega arith) old)
 
       -- another number: the scan goes on
-      pub scan_mark : bit target x ≡ false → Scanning s owner sources target after scanned todo g fresh (x + 1)
+      pub scan_mark : bit target x ≡ false → Scanning s owner sources target after scanned todo g left
       scan_mark e = record {
         going = record {
           level = level';
@@ -298,20 +280,26 @@ module _ (s : Agents) (owner bundles : List ℕ) (ready : Ready s owner bundles)
           to_long = ap length mark.to ∙ length-set trace.to x t ∙ sc.going.to_long;
         };
         member = sc.member;
-        passed = λ k fk b. elim (ℕ_discrete k x) [ yes same ↦ subst⁻¹ (λ (j : ℕ). T (bit after.seen j)) same reached | no d ↦ kept k (sc.passed k fk (omega arith)) ];
-        ahead = λ k fk b.
-            let (o, l, ed) = sc.ahead k fk (omega arith) in
-            (subst⁻¹ (λ (b : Bool). T (not b)) (mark.seen k) (not_T (with (bit trace.seen) x k) (λ w. elim (with_cases (bit trace.seen) x k w) [ inl old ↦ T_not (bit trace.seen k) o old | inr same ↦ omega arith ])), l, ed);
-        leads = λ k l ed. elim (sc.leads k l ed) [ inl old ↦ inl (kept k old) | inr fk ↦ inr fk ];
+        ahead = λ k lk.
+            let still = subst T (taken.is k) lk in
+            let (o, l, ed) = sc.ahead k (and_left (bit fresh k) _ still) in
+            (subst⁻¹ (λ (b : Bool). T (not b)) (mark.seen k) (not_T (with (bit trace.seen) x k) (λ w. elim (with_cases (bit trace.seen) x k w) [ inl old ↦ T_not (bit trace.seen k) o old | inr same ↦ T_not (eqb k x) (and_right (bit fresh k) _ still) (subst⁻¹ T (eq-eqb k x same) tt) ])), l, ed);
+        leads = λ k l ed. elim (sc.leads k l ed) [
+          | inl old ↦ inl (kept k old)
+          | inr fk ↦ elim (ℕ_discrete k x) [
+            | yes same ↦ inl (subst⁻¹ (λ (j : ℕ). T (bit after.seen j)) same reached)
+            | no d ↦ inr (subst⁻¹ T (taken.is k) (both_of (bit fresh k) _ fk (ne→eqb k x d)))
+          ]
+        ];
       }
 
-    -- all are passed: g is scanned
-    pub scan_end : (scanned' todo' : ℕ) → s.m ≤ x → ((k : ℕ) → bit scanned' k ≡ with (bit scanned) g k) → ((k : ℕ) → bit todo' k ≡ without (bit todo) g k) → Going s owner sources target trace scanned' todo'
-    scan_end scanned' todo' l isC isO = record {
+    -- nothing is left: g is scanned
+    pub scan_end : (scanned' todo' : ℕ) → Lowest fresh 64 → ((k : ℕ) → bit scanned' k ≡ with (bit scanned) g k) → ((k : ℕ) → bit todo' k ≡ without (bit todo) g k) → Going s owner sources target trace scanned' todo'
+    scan_end scanned' todo' none isC isO = record {
       level = sc.going.level;
       depth = sc.going.depth;
       wave = wave_scanned s.n (agent_matroid s) (holder owner) (bit sources) (bit trace.seen) (bit scanned) (bit todo) (labels_of sc.going.level trace) sc.going.depth sc.going.wave g (bit scanned') (bit todo') sc.member
-          (λ k b ed. elim (sc.leads k b ed) [ inl old ↦ old | inr fk ↦ sc.passed k fk (omega arith) ]) isC isO;
+          (λ k b ed. elim (sc.leads k b ed) [ inl old ↦ old | inr fk ↦ absurd (T_not (bit fresh k) (none.least k (let small = ready.small in omega arith)) fk) ]) isC isO;
       roots = sc.going.roots;
       clear = sc.going.clear;
       parent_long = sc.going.parent_long;
@@ -321,24 +309,22 @@ module _ (s : Agents) (owner bundles : List ℕ) (ready : Ready s owner bundles)
 -- ---- how the search ends
 
 module _ (s : Agents) (owner bundles : List ℕ) (ready : Ready s owner bundles) (sources target : ℕ) where
-  pub outcome_found : (trace : Trace) (end : ℕ) → end < 64 → Labelling s owner sources trace × T (bit trace.seen end) × T (bit target end)
-      → Outcome s owner sources target (ended_at trace end)
-  outcome_found trace end l found = rw (lt-ltb end 64 l) (record {
-    found = λ _. found;
-    closed = λ e. absurd (true≢false e);
-    gains = λ e. absurd (true≢false e);
-    below = λ e. absurd (true≢false e);
-    clear = λ e. absurd (true≢false e);
-  })
+  pub outcome_found : (trace : Trace) (end : ℕ) → Labelling s owner sources trace × T (bit trace.seen end) × T (bit target end) → Outcome s owner sources target (ended_at trace (Some end))
+  outcome_found trace end found = record {
+    found = λ x e. subst (λ (x : ℕ). Labelling s owner sources trace × T (bit trace.seen x) × T (bit target x)) (same_Some end x e) found;
+    closed = λ e. absurd (none-some end (sym e));
+    gains = λ e. absurd (none-some end (sym e));
+    below = λ e. absurd (none-some end (sym e));
+    clear = λ e. absurd (none-some end (sym e));
+  }
 
-  pub outcome_none : (trace : Trace) (scanned todo r least end : ℕ) → Going s owner sources target trace scanned todo → Rest todo trace.seen scanned r → Lowest r least → 64 ≤ least → end ≡ 64
-      → Outcome s owner sources target (ended_at trace end)
-  outcome_none trace scanned todo r least end g rest lowest top e =
-      let all = all_scanned s owner bundles ready sources target trace scanned todo g r least rest lowest top in
-      rw (le-ltb end 64 (omega arith)) (record {
-        found = λ f. absurd (false≢true f);
+  pub outcome_none : (trace : Trace) (scanned todo r : ℕ) → Going s owner sources target trace scanned todo → Rest todo trace.seen scanned r → Lowest r 64 → Outcome s owner sources target (ended_at trace None)
+  outcome_none trace scanned todo r g rest lowest =
+      let all = all_scanned s owner bundles ready sources target trace scanned todo g r 64 rest lowest (omega arith) in
+      record {
+        found = λ x e. absurd (none-some x e);
         closed = λ _. wave_closed s.n (agent_matroid s) (holder owner) (bit sources) (bit trace.seen) (bit scanned) (bit todo) (labels_of g.level trace) g.depth g.wave all;
         gains = λ _ t l src. wave_gains s.n (agent_matroid s) (holder owner) (bit sources) (bit trace.seen) (bit scanned) (bit todo) (labels_of g.level trace) g.depth g.wave t l src;
         below = λ _. g.wave.below;
         clear = λ _. g.clear;
-      })
+      }

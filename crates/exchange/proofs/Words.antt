@@ -1,13 +1,15 @@
 -- Bundles as words: they agree with the theory's bundles below m.
-use Prim.Native.Nat.{ℕ, ◌+◌, ◌≤◌, ◌<◌}
+use Prim.Native.Nat.{ℕ, ◌+◌, ◌^◌, ◌≤◌, ◌<◌}
 use mathlib.Core.Path.{◌≡◌, refl, sym, ap, ◌∙◌, subst, subst⁻¹}
-use mathlib.Core.Bool.{Bool, true, ◌&&◌, ◌||◌, not}
-use mathlib.Core.Logic.{◌↔◌}
+use mathlib.Core.Bool.{Bool, true, false, ◌&&◌, ◌||◌, not}
+use mathlib.Core.Logic.{◌↔◌, ◌≢◌}
 use mathlib.Core.List.{List}
 use native.Mathlib.Omega.{arith}
 use native.Mathlib.Decide.{dec_lt}
 use lib.Dec.{T, eqb, ltb, lt→ltb, T_not}
 use lib.ListN.{length, get_or}
+use lib.Count.{count_trailing_zeros}
+use lib.Pow.{pow_mono}
 use borrow.Author.Tests.{lt-ltb, le-ltb}
 use Rattle.matroid.specs.Taut.{both, and_left, and_right, follows₂}
 use Rattle.matroid.specs.Set.{Set, without, under, Within}
@@ -18,15 +20,17 @@ use Rattle.matroid.specs.Breadth.{Rooted}
 use Rattle.matroid.proofs.Sets.{with_mono, swap_mono}
 use Rattle.matroid.proofs.Waves.{rooted_take}
 use Rattle.sets.specs.Bits.{bit}
-use Rattle.sets.specs.Lowest.{Lowest}
 use Rattle.sets.specs.Assigned.{Assigned}
-use Rattle.sets.proofs.Below.{none_there}
+use Rattle.sets.proofs.Below.{bit_none, none_there}
+use Rattle.sets.proofs.Equal.{same_word}
+use Rattle.sets.proofs.Trailing.{trailing_least, trailing_member}
+use Rattle.sets.proofs.Words.{bit_high}
 use Rattle.sets.specs.Joining.{MayJoin}
 use Rattle.holding.specs.declared.Holding.{Holding}
 use Rattle.holding.specs.Give.{holder_of, is_instrument, is_team, in_pool}
 use Rattle.holding.specs.Words.{Pool}
 use Rattle.kinds.specs.declared.Valuation.{Valuation}
-use Rattle.sets.proofs.Lists.{get_d_any}
+use Rattle.std.proofs.lemmas.List.{get_or_default}
 use Rattle.kinds.specs.Valuations.{matroid_of, blank_valuation}
 use Rattle.exchange.specs.declared.Agents.{Agents}
 use Rattle.exchange.specs.Agents.{agent_matroid, holder, Ready, Held}
@@ -72,18 +76,34 @@ exchanges_at m v set g seen cut free fresh r is_cut gains is-fresh is-r = record
 }
 
 -- where everything below m is seen, nothing new can take the place of g
-pub exchanges_none : (m : ℕ) (v : Valuation) (set g seen all left low : ℕ) → m ≤ 64 → ((k : ℕ) → bit all k ≡ under m k)
-    → ((k : ℕ) → bit left k ≡ (bit all k && not (bit seen k))) → Lowest left low → 64 ≤ low → Exchanges m v set g seen 0
-exchanges_none m v set g seen all left low small is_all is-left lowest none = record {
+pub exchanges_none : (m : ℕ) (v : Valuation) (set g seen all left : ℕ) → ((k : ℕ) → bit all k ≡ under m k)
+    → ((k : ℕ) → bit left k ≡ (bit all k && not (bit seen k))) → left ≡ 0 → Exchanges m v set g seen 0
+exchanges_none m v set g seen all left is_all is-left none = record {
   at = λ i x. (
     λ t. absurd (T_not (bit 0 x) (none_there x) t),
-    λ (l, new, _). absurd (T_not (bit left x) (lowest.least x (omega arith)) (subst⁻¹ T (is-left x) (both (bit all x) _ (subst⁻¹ T (is_all x) (lt→ltb x m l)) new))),
+    λ (l, new, _). absurd (T_not (bit 0 x) (none_there x) (subst (λ (w : ℕ). T (bit w x)) none (subst⁻¹ T (is-left x) (both (bit all x) _ (subst⁻¹ T (is_all x) (lt→ltb x m l)) new)))),
   );
 }
 
+bit_out : (b : Bool) → T (not b) → b ≡ false
+bit_out false t = refl
+bit_out true t = absurd t
+
+-- a word that is not 0 has a member
+pub some_there : (s : ℕ) → s < 2 ^ 64 → s ≢ 0 → (k : ℕ) × (k < 64) × T (bit s k)
+some_there s l d = go (dec_lt (count_trailing_zeros 64 s) 64)
+  where
+    empty : 64 ≤ count_trailing_zeros 64 s → (j : ℕ) → Dec (j < 64) → bit s j ≡ bit 0 j
+    empty high j (yes b) = bit_out (bit s j) (trailing_least 64 s j (omega arith)) ∙ sym (bit_none j)
+    empty high j (no b) = bit_high s j (let p : 2 ^ 64 ≤ 2 ^ j = let h : 64 ≤ j = omega arith in pow_mono h in omega arith) ∙ sym (bit_none j)
+
+    go : Dec (count_trailing_zeros 64 s < 64) → (k : ℕ) × (k < 64) × T (bit s k)
+    go (yes b) = (count_trailing_zeros 64 s, b, trailing_member 64 s b)
+    go (no b) = absurd (d (same_word 64 s 0 l (omega arith) (λ j. empty (omega arith) j (dec_lt j 64))))
+
 -- the matroid of the valuation that the code reads is the agent's
 pub agent_is : (s : Agents) (t : ℕ) (v d : Valuation) → t < s.n → s.n ≤ 12 → length s.valuations ≡ 12 → v ≡ get_or s.valuations t d → matroid_of s.m v ≡ agent_matroid s t
-agent_is s t v d l few long e = ap (matroid_of s.m) (e ∙ get_d_any s.valuations t d blank_valuation (omega arith))
+agent_is s t v d l few long e = ap (matroid_of s.m) (e ∙ get_or_default s.valuations t d blank_valuation (omega arith))
 
 -- ---- the words of the bundles
 

@@ -1,5 +1,5 @@
 -- What the functions of the search promise.
-use Rattle.std.specs.Prelude.{ℕ, ◌<◌, ◌≡◌, true, false, not, ◌↔◌, List, T, ltb, get_or, set}
+use Rattle.std.specs.Prelude.{ℕ, ◌<◌, ◌≡◌, not, ◌↔◌, List, T, get_or, set, Option, Some, None}
 use Rattle.matroid.specs.Set.{◌∖◌, with}
 use Rattle.matroid.specs.Exchange.{Swaps}
 use Rattle.matroid.specs.Closure.{Closed, GainsWithin}
@@ -23,9 +23,9 @@ pub record Marked (before : Trace) (x g t : ℕ) (r : Trace) : Type 0 where
   pub parent : r.parent ≡ set before.parent x g
   pub to : r.to ≡ set before.to x t
 
--- the search ends at an instrument or, where that is 64, with nothing more to reach
-abbrev pub ended_at : Trace → ℕ → Reached
-ended_at trace end = record { found = ltb end 64; end = end; trace = trace }
+-- the search ends at an instrument, or with nothing more to reach
+abbrev pub ended_at : Trace → Option ℕ → Reached
+ended_at trace end = record { end = end; trace = trace }
 
 -- for an independent bundle with g: the numbers below m, not seen, that can take the place of g
 pub record Exchanges (m : ℕ) (v : Valuation) (bundle g seen r : ℕ) : Type 0 where
@@ -49,11 +49,11 @@ pub record Labelling (s : Agents) (owner : List ℕ) (sources : ℕ) (r : Trace)
 -- Found: the end is a target that was reached. Not found: what was reached is closed under exchanges, has all that a source can gain,
 -- and no target.
 pub record Outcome (s : Agents) (owner : List ℕ) (sources target : ℕ) (r : Reached) : Type 0 where
-  pub found : r.found ≡ true → Labelling s owner sources r.trace × T (bit r.trace.seen r.end) × T (bit target r.end)
-  pub closed : r.found ≡ false → Closed s.n (agent_matroid s) (holder owner) (bit r.trace.seen)
-  pub gains : r.found ≡ false → (t : ℕ) → t < s.n → T (bit sources t) → GainsWithin s.n (agent_matroid s) (holder owner) (bit r.trace.seen) t
-  pub below : r.found ≡ false → (g : ℕ) → T (bit r.trace.seen g) → g < s.m
-  pub clear : r.found ≡ false → (g : ℕ) → T (bit r.trace.seen g) → T (not (bit target g))
+  pub found : (end : ℕ) → r.end ≡ Some end → Labelling s owner sources r.trace × T (bit r.trace.seen end) × T (bit target end)
+  pub closed : r.end ≡ None → Closed s.n (agent_matroid s) (holder owner) (bit r.trace.seen)
+  pub gains : r.end ≡ None → (t : ℕ) → t < s.n → T (bit sources t) → GainsWithin s.n (agent_matroid s) (holder owner) (bit r.trace.seen) t
+  pub below : r.end ≡ None → (g : ℕ) → T (bit r.trace.seen g) → g < s.m
+  pub clear : r.end ≡ None → (g : ℕ) → T (bit r.trace.seen g) → T (not (bit target g))
 
 -- A scan from the trace of what any sources can gain, clear of targets, ends as the search from these sources does.
 pub record Scanned (s : Agents) (owner : List ℕ) (target : ℕ) (start : Trace) (r : Reached) : Type 0 where

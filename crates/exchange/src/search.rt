@@ -1,4 +1,5 @@
 // Breadth-first search over exchanges, from what source agents can gain to a target instrument.
+// Kept (point 5): docs/STATEMENTS.md names the search and `divide`, so a ghost field of Agents for `Ready` or `ValidAgents` would ask more of their callers.
 ghost use Rattle.std.specs.Prelude.{◌≡◌, List, ℕ, ◌≤◌, ◌<◌};
 ghost use Rattle.exchange.specs.Agents.{Ready};
 ghost use Rattle.exchange.specs.Search.{Rooting, Marked, ended_at, Exchanges, Rest, Scanned, Outcome};
@@ -10,6 +11,7 @@ use kinds::Valuation;
 #[derive(Clone, Copy)]
 pub struct Trace {
     pub seen: u64,
+    // Kept (points 1, 6): `Rooting`, `Labelling` and `Followed` read both as tables of numbers, 255 for a root; the roots fill `to` alone.
     pub parent: [u8; 64],
     pub to: [u8; 64],
 }
@@ -17,8 +19,7 @@ pub struct Trace {
 // How a search ends: with a chain's end, or with nothing more to reach.
 #[derive(Clone, Copy)]
 pub struct Reached {
-    pub found: bool,
-    pub end: usize,
+    pub end: Option<usize>,
     pub trace: Trace,
 }
 
@@ -27,15 +28,11 @@ fn roots(s: Agents, bundles: [u64; 12], sources: u64) -> Trace
     requires { (s.m ≤ 64) × (s.n ≤ 12) }
     ensures { (owner : List ℕ) → Ready s owner bundles → Rooting s owner sources s.n result }
 {
-    let m = s.m;
-    let n = s.n;
-    let valuations = s.valuations;
     let mut seen: u64 = 0;
     let mut to = [255u8; 64];
-    for t in 0..n {
+    for (t, v) in s.valuations[..s.n].iter().enumerate() {
         if sets::member(sources, t) {
-            let v = valuations[t];
-            let free = kinds::gains_of(v, m, bundles[t]);
+            let free = kinds::gains_of(*v, s.m, bundles[t]);
             let fresh = sets::minus(free, seen);
             sets::assign(&mut to, fresh, t as u8);
             seen = sets::either(seen, free);
@@ -60,15 +57,11 @@ impl Trace {
         self
     }
 
-    // How the search ends: at an instrument or, where that is 64, with nothing more to reach.
-    fn ended(self, end: usize) -> Reached
+    // How the search ends: at an instrument, or with nothing more to reach.
+    fn ended(self, end: Option<usize>) -> Reached
         ensures { result ≡ ended_at self end }
     {
-        Reached {
-            found: end < 64,
-            end,
-            trace: self,
-        }
+        Reached { end, trace: self }
     }
 }
 
@@ -77,7 +70,7 @@ fn exchanges(v: Valuation, m: usize, bundle: u64, g: usize, seen: u64) -> u64
     requires { (m ≤ 64) × (g < 64) }
     ensures { Exchanges m v bundle g seen result }
 {
-    if sets::lowest(sets::minus(sets::all_below(m), seen)) >= 64 {
+    if sets::minus(sets::all_below(m), seen) == 0 {
         return 0;
     }
     let free = kinds::gains_of(v, m, sets::without(bundle, g));
@@ -88,10 +81,11 @@ fn exchanges(v: Valuation, m: usize, bundle: u64, g: usize, seen: u64) -> u64
 fn rest(todo: u64, seen: u64, scanned: u64) -> u64
     ensures { Rest todo seen scanned result }
 {
-    if sets::lowest(todo) < 64 {
-        todo
-    } else {
+    let done = todo == 0;
+    if done {
         sets::minus(seen, scanned)
+    } else {
+        todo
     }
 }
 
@@ -101,39 +95,30 @@ fn scan(s: Agents, owner: [u8; 64], bundles: [u64; 12], target: u64, start: Trac
     requires { Ready s owner bundles }
     ensures { Scanned s owner target start result }
 {
-    let m = s.m;
-    let n = s.n;
-    let valuations = s.valuations;
     let mut trace = start;
     let mut scanned: u64 = 0;
     let mut todo = trace.seen;
-    let mut end: usize = 64;
-    'scan: loop {
+    let end = 'scan: loop {
         todo = rest(todo, trace.seen, scanned);
-        let g = sets::lowest(todo);
-        if g >= 64 {
-            break;
-        }
-        let mut fresh: u64 = 0;
+        let Some(g) = sets::first(todo) else {
+            break None;
+        };
         let t = owner[g];
         let agent = t as usize;
-        if agent < n {
-            let v = valuations[agent];
-            fresh = exchanges(v, m, bundles[agent], g, trace.seen);
-        }
-        let first = sets::lowest(fresh);
-        for x in first..m {
-            if sets::member(fresh, x) {
-                trace = trace.marked(x, g, t);
-                if sets::member(target, x) {
-                    end = x;
-                    break 'scan;
-                }
+        let fresh = if agent < s.n {
+            exchanges(s.valuations[agent], s.m, bundles[agent], g, trace.seen)
+        } else {
+            0
+        };
+        for x in sets::members(fresh) {
+            trace = trace.marked(x, g, t);
+            if sets::member(target, x) {
+                break 'scan Some(x);
             }
         }
         scanned = sets::with(scanned, g);
         todo = sets::without(todo, g);
-    }
+    };
     trace.ended(end)
 }
 
@@ -143,9 +128,8 @@ pub fn search(s: Agents, owner: [u8; 64], bundles: [u64; 12], sources: u64, targ
     ensures { Outcome s owner sources target result }
 {
     let start = roots(s, bundles, sources);
-    let hit = sets::lowest(sets::both(start.seen, target));
-    if hit < 64 {
-        return start.ended(hit);
+    match sets::first(sets::both(start.seen, target)) {
+        Some(hit) => start.ended(Some(hit)),
+        None => scan(s, owner, bundles, target, start),
     }
-    scan(s, owner, bundles, target, start)
 }

@@ -13,13 +13,14 @@ use lib.Seq.{get_or-set_same, get_or-set_other, set_out}
 use mir.Syntax.{w8}
 use mir.Val.{Fits}
 use borrow.Author.Tests.{lt-ltb, le-ltb}
-use Rattle.sets.proofs.Lists.{get_d_any}
+use Rattle.std.proofs.lemmas.List.{get_or_default}
 use Rattle.holding.specs.declared.Holding.{Holding}
+use Rattle.holding.specs.declared.Move.{Move}
 use Rattle.holding.specs.declared.Moves.{Moves}
 use Rattle.holding.specs.declared.Tally.{Tally}
 use Rattle.holding.specs.Count.{sizes_in, Right}
 use Rattle.holding.specs.Give.{holder_of, is_instrument, is_team, with_owner}
-use Rattle.holding.specs.Chain.{item_at, team_of, may_move, moves_fit, moved, carried_out}
+use Rattle.holding.specs.Chain.{no_move, item_at, team_of, may_move, moves_fit, moved, carried_out}
 use Rattle.holding.specs.Tally.{tally_of, raised_at, lowered_at, passed_on}
 use Rattle.holding.proofs.Tests.{and_left, and_right, team_below}
 use Rattle.holding.proofs.Fits.{fit_item, fit_move}
@@ -63,15 +64,15 @@ Lowered row last from less = ((from < last) × (less ≡ set row from (get_or ro
 
 -- One move more.
 module _ (h : Holding) (moves : Moves) (k : ℕ) (owner row : List ℕ) (c : Carrying h moves k owner row) (long : length h.owner ≡ 64) (fit : moves_fit h moves ≡ true) (l : k < moves.count)
-    (from : ℕ) (is-from : from ≡ get_or owner (item_at moves k) 0) where
+    (step : Move) (is-step : step ≡ get_or moves.list k no_move) (from : ℕ) (is-from : from ≡ get_or owner step.item 0) where
   abbrev now : Holding
   now = with_owner h owner
 
   abbrev g : ℕ
-  g = item_at moves k
+  g = step.item
 
   abbrev t : ℕ
-  t = team_of moves k
+  t = step.to
 
   right : Right now
   right = counted_right h.m h.n owner h.shares
@@ -81,16 +82,20 @@ module _ (h : Holding) (moves : Moves) (k : ℕ) (owner row : List ℕ) (c : Car
 
   instrument : is_instrument now g ≡ true
   unfolding may_move is_instrument
-  instrument = and_left _ _ (fit_move h moves k fit l)
+  instrument = rw is-step (and_left _ _ (fit_move h moves k fit l))
 
   team : is_team now t ≡ true
   unfolding may_move is_team
-  team = and_right (is_instrument h g) _ (fit_move h moves k fit l)
+  team = rw is-step (and_right (is_instrument h (item_at moves k)) _ (fit_move h moves k fit l))
+
+  -- it is of an instrument
+  pub carrying_item : step.item < 64
+  carrying_item = rw is-step (fit_item h moves k fit l)
 
   -- it comes from its holder
   comes : from ≡ holder_of now g
   unfolding holder_of
-  comes = is-from ∙ get_d_any owner g 0 255 (let b = fit_item h moves k fit l in let w = wide in omega arith)
+  comes = is-from ∙ get_or_default owner g 0 255 (let b = carrying_item in let w = wide in omega arith)
 
   -- a team that it comes from holds something
   pub carrying_some : from < min h.n 12 → 0 < get_or row from 0
@@ -98,7 +103,7 @@ module _ (h : Holding) (moves : Moves) (k : ℕ) (owner row : List ℕ) (c : Car
 
   next_owners : set owner g t ≡ moved h.owner moves (k + 1)
   unfolding moved
-  next_owners = rw (add-one k, c.owners) refl
+  next_owners = rw (add-one k, c.owners, is-step) refl
 
   -- it is counted where it comes from
   module _ (less : List ℕ) (lowered : Lowered row (min h.n 12) from less) where

@@ -6,13 +6,16 @@ use native.Mathlib.Omega.{arith}
 use native.Mathlib.Numerals.{add-one}
 use native.Mathlib.Decide.{ℕ_discrete}
 use lib.Dec.{eqb, leb}
+use lib.ListN.{length, take, get_or}
+use Rattle.std.proofs.Common.{length-take, get_or-take}
 use borrow.Author.Tests.{le-leb, lt-leb, leb-true}
 use Rattle.matroid.specs.Set.{with}
 use Rattle.sets.specs.Bits.{bit}
 use Rattle.holding.specs.declared.Holding.{Holding}
+use Rattle.holding.specs.declared.Move.{Move}
 use Rattle.holding.specs.declared.Moves.{Moves}
 use Rattle.holding.specs.Give.{is_instrument, is_team}
-use Rattle.holding.specs.Chain.{item_at, team_of, may_move, earlier, first_fit, moves_fit}
+use Rattle.holding.specs.Chain.{no_move, item_at, team_of, may_move, earlier, first_fit, moves_fit}
 use Rattle.holding.proofs.Tests.{and_left, and_right, instrument_below}
 use Rattle.sets.proofs.Below.{bit_none}
 
@@ -71,31 +74,47 @@ pub fits_many : (h : Holding) (moves : Moves) → 64 < moves.count → false ≡
 unfolding moves_fit
 fits_many h moves l = rw (lt-leb moves.count 64 l) refl
 
-module _ (h : Holding) (moves : Moves) (k word : ℕ) (f : Fitting h moves k word) where
+-- a step of a loop over the moves is of one of them
+pub in_list : (moves : Moves) (k : ℕ) → k < length (take moves.count moves.list) → k < moves.count
+in_list moves k l = omega (arith, length-take moves.count moves.list)
+
+pub step_is : (moves : Moves) (k : ℕ) → k < length (take moves.count moves.list) → get_or (take moves.count moves.list) k no_move ≡ get_or moves.list k no_move
+step_is moves k l = get_or-take moves.count moves.list k no_move (in_list moves k l)
+
+-- the loop ends after the last
+pub list_end : (moves : Moves) (k : ℕ) → length moves.list ≡ 64 → moves.count ≤ 64 → k ≤ length (take moves.count moves.list) → length (take moves.count moves.list) ≤ k → k ≡ moves.count
+list_end moves k long few a b = omega (arith, length-take moves.count moves.list)
+
+module _ (h : Holding) (moves : Moves) (k word : ℕ) (f : Fitting h moves k word) (step : Move) (is : step ≡ get_or moves.list k no_move) where
   -- one move more that fits, of an instrument not seen
-  pub fits_more : (next : ℕ) (may : Bool) (again : Bool) → may ≡ may_move h (item_at moves k) (team_of moves k) → may ≡ true → again ≡ bit word (item_at moves k) → again ≡ false
-      → ((x : ℕ) → bit next x ≡ with (bit word) (item_at moves k) x) → Fitting h moves (k + 1) next
+  pub fits_more : (next : ℕ) (may : Bool) (again : Bool) → may ≡ may_move h step.item step.to → may ≡ true → again ≡ bit word step.item → again ≡ false
+      → ((x : ℕ) → bit next x ≡ with (bit word) step.item x) → Fitting h moves (k + 1) next
   unfolding first_fit earlier
-  fits_more next may again is-may yes-may is-again not-again joined = rw (add-one k) (record {
-    fit = rw (f.fit, sym is-may ∙ yes-may, sym (f.seen (item_at moves k)) ∙ sym is-again ∙ not-again) refl;
-    seen = λ x. joined x ∙ ap (λ (b : Bool). b || eqb x (item_at moves k)) (f.seen x);
-  })
+  fits_more next may again is-may yes-may is-again not-again joined =
+      let is-may' : may ≡ may_move h (item_at moves k) (team_of moves k) = rw is at is-may in
+      let is-again' : again ≡ bit word (item_at moves k) = rw is at is-again in
+      rw (add-one k) (record {
+        fit = rw (f.fit, sym is-may' ∙ yes-may, sym (f.seen (item_at moves k)) ∙ sym is-again' ∙ not-again) refl;
+        seen = λ x. joined x ∙ ap (λ (s : Move). with (bit word) s.item x) is ∙ ap (λ (b : Bool). b || eqb x (item_at moves k)) (f.seen x);
+      })
 
   -- a move that does not fit
-  pub fits_stop : (may : Bool) → may ≡ may_move h (item_at moves k) (team_of moves k) → may ≡ false → k < moves.count → false ≡ moves_fit h moves
+  pub fits_stop : (may : Bool) → may ≡ may_move h step.item step.to → may ≡ false → k < moves.count → false ≡ moves_fit h moves
   unfolding moves_fit first_fit
   fits_stop may is-may not-may l =
-      let stop : first_fit h moves (suc k) ≡ false = rw (sym is-may ∙ not-may) (and-false (first_fit h moves k)) in
+      let is-may' : may ≡ may_move h (item_at moves k) (team_of moves k) = rw is at is-may in
+      let stop : first_fit h moves (suc k) ≡ false = rw (sym is-may' ∙ not-may) (and-false (first_fit h moves k)) in
       rw (first_false h moves (suc k) moves.count (omega arith) stop) (sym (and-false (leb moves.count 64)))
 
   -- a move of an instrument seen
-  pub fits_twice : (again : Bool) → again ≡ bit word (item_at moves k) → again ≡ true → k < moves.count → false ≡ moves_fit h moves
+  pub fits_twice : (again : Bool) → again ≡ bit word step.item → again ≡ true → k < moves.count → false ≡ moves_fit h moves
   unfolding moves_fit first_fit
   fits_twice again is-again yes-again l =
-      let stop : first_fit h moves (suc k) ≡ false = rw (sym (f.seen (item_at moves k)) ∙ sym is-again ∙ yes-again, and-false) (and-false (first_fit h moves k)) in
+      let is-again' : again ≡ bit word (item_at moves k) = rw is at is-again in
+      let stop : first_fit h moves (suc k) ≡ false = rw (sym (f.seen (item_at moves k)) ∙ sym is-again' ∙ yes-again, and-false) (and-false (first_fit h moves k)) in
       rw (first_false h moves (suc k) moves.count (omega arith) stop) (sym (and-false (leb moves.count 64)))
 
-  -- every move fits
-  pub fits_all : k ≡ moves.count → moves.count ≤ 64 → true ≡ moves_fit h moves
-  unfolding moves_fit
-  fits_all e l = rw (le-leb moves.count 64 l) (sym (sym (ap (first_fit h moves) e) ∙ f.fit))
+-- every move fits
+pub fits_all : (h : Holding) (moves : Moves) (k word : ℕ) → Fitting h moves k word → k ≡ moves.count → moves.count ≤ 64 → true ≡ moves_fit h moves
+unfolding moves_fit
+fits_all h moves k word f e l = rw (le-leb moves.count 64 l) (sym (sym (ap (first_fit h moves) e) ∙ f.fit))

@@ -1,8 +1,9 @@
 -- The functions that keep the counts, as numbers.
 use Prim.Native.Nat.{ℕ, ◌+◌, ◌-◌, ◌≤◌, ◌<◌}
-use mathlib.Core.Path.{◌≡◌, refl, ap, ◌∙◌}
+use mathlib.Core.Path.{◌≡◌, refl, ap}
 use native.Mathlib.Omega.{arith}
 use native.Mathlib.Numerals.{add-one}
+use native.Mathlib.Decide.{dec_lt}
 use lib.ListN.{set}
 use borrow.Author.Tests.{lt-ltb, le-ltb}
 use Rattle.matroid.specs.Shortfall.{lack, shortfall}
@@ -42,13 +43,10 @@ pub lacks_none : (σ f : ℕ → ℕ) → 0 ≡ shortfall 0 σ f
 unfolding shortfall
 lacks_none σ f = refl
 
-module _ (σ f : ℕ → ℕ) (t sum next : ℕ) (is : sum ≡ shortfall t σ f) where
-  -- a short team lacks the difference
-  pub lacks_more : f t < σ t → next ≡ sum + (σ t - f t) → next ≡ shortfall (t + 1) σ f
-  unfolding shortfall lack
-  lacks_more l e = e ∙ ap (λ (x : ℕ). x + (σ t - f t)) is ∙ rw (add-one t, lt-ltb (f t) (σ t) l) refl
-
-  -- and any other nothing
-  pub lacks_same : σ t ≤ f t → next ≡ sum → next ≡ shortfall (t + 1) σ f
-  unfolding shortfall lack
-  lacks_same l e = e ∙ is ∙ rw (add-one t, le-ltb (f t) (σ t) l) (omega arith)
+-- the next team lacks its share less its size, or nothing
+pub lacks_more : (σ f : ℕ → ℕ) (t sum lacks : ℕ) → sum ≡ shortfall t σ f → lacks ≡ σ t - f t → sum + lacks ≡ shortfall (t + 1) σ f
+unfolding shortfall lack
+lacks_more σ f t sum lacks is e = rw (add-one t, is, e) (elim (dec_lt (f t) (σ t)) [
+  | yes l ↦ rw (lt-ltb (f t) (σ t) l) refl
+  | no d ↦ rw (le-ltb (f t) (σ t) (omega arith)) (omega arith)
+])

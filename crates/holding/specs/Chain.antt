@@ -1,16 +1,21 @@
 -- Chain (document 01, "Worth and share"): "chain carries out a list of moves, each an instrument and the team that gets it, no instrument twice".
 use Rattle.std.specs.Prelude.{ℕ, zero, suc, Bool, true, false, ◌&&◌, ◌||◌, not, cond, List, eqb, leb, get_or, set}
 use Rattle.holding.specs.declared.Holding.{Holding}
+use Rattle.holding.specs.declared.Move.{Move}
 use Rattle.holding.specs.declared.Moves.{Moves}
 use Rattle.holding.specs.Give.{is_instrument, is_team, with_owner}
 
+-- what stands past the end of the table
+abbrev pub no_move : Move
+no_move = record { item = 0; to = 0 }
+
 -- move k: the instrument
 abbrev pub item_at : Moves → ℕ → ℕ
-item_at moves k = get_or moves.item k 0
+item_at moves k = (get_or moves.list k no_move).item
 
 -- and the team that gets it
 abbrev pub team_of : Moves → ℕ → ℕ
-team_of moves k = get_or moves.to k 0
+team_of moves k = (get_or moves.list k no_move).to
 
 -- "there an instrument may come from the pool or from any team, the one that gets it included": every instrument is in the pool or with a
 -- team, so its present place always fits

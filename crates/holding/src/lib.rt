@@ -1,4 +1,5 @@
 // Who holds each instrument, with the size of each bundle and the shortfall, and the operations that change it: give, return and chain.
+// Kept (point 5): `Right` is no invariant of the type: note 7 has give, return and chain called "only on a holding where both are right".
 #![tactic(auto)]
 
 ghost use Rattle.std.specs.Prelude.{◌≡◌, true, ◌≤◌, ◌<◌, min, get_or};
@@ -14,36 +15,44 @@ ghost use Rattle.holding.specs.Words.{Pool};
 // The owner of each instrument. Instruments are the numbers below m and 64, teams those below n and 12; an instrument whose owner is no
 // team is in the pool (255 is what is written there). Beside the owners: the shares it is measured against, the size of each bundle (0 beyond the
 // last team), and the sum over short teams of share minus size.
-#[derive(Clone, Copy)]
+#[derive(Clone, Copy, PartialEq, Eq)]
 pub struct Holding {
     pub m: usize,
     pub n: usize,
+    // Kept (point 1): any byte that is no team stands for the pool, and a return writes 255 (`in_pool`, `returned`, `returned_gave`).
     pub owner: [u8; 64],
     pub shares: [u8; 12],
     pub sizes: [u8; 12],
     pub shortfall: usize,
 }
 
-// A list of moves: instrument item[k] goes to team to[k].
+// A move: an instrument goes to a team.
+#[derive(Clone, Copy)]
+pub struct Move {
+    pub item: u8,
+    pub to: u8,
+}
+
+// A list of moves: the first of a table, as many as the count says. More than 64 do not fit.
 #[derive(Clone, Copy)]
 pub struct Moves {
+    // Kept (point 6): a count above 64 can be written, and `chain` refuses it; memory is fixed.
     pub count: usize,
-    pub item: [u8; 64],
-    pub to: [u8; 64],
+    pub list: [Move; 64],
 }
 
 // How many instruments there are.
 fn instruments(m: usize) -> usize
     ensures { result ≡ min m 64 }
 {
-    if m < 64 { m } else { 64 }
+    m.min(64)
 }
 
 // How many teams there are.
 fn teams(n: usize) -> usize
     ensures { result ≡ min n 12 }
 {
-    if n < 12 { n } else { 12 }
+    n.min(12)
 }
 
 // What n teams lack of their shares in all, by the sizes of their bundles.
@@ -52,12 +61,8 @@ fn shortfall_of(n: usize, shares: [u8; 12], sizes: [u8; 12]) -> usize
 {
     let end = teams(n);
     let mut sum: usize = 0;
-    for t in 0..end {
-        let share = shares[t];
-        let size = sizes[t];
-        if size < share {
-            sum += (share - size) as usize;
-        }
+    for (share, size) in shares[..end].iter().zip(&sizes[..end]) {
+        sum += share.saturating_sub(*size) as usize;
     }
     sum
 }
@@ -119,12 +124,11 @@ impl Holding {
         let shares = tally.shares;
         let sizes = tally.sizes;
         Holding {
-            m: self.m,
-            n: self.n,
             owner,
             shares,
             sizes,
             shortfall: tally.shortfall,
+            ..self
         }
     }
 
@@ -150,10 +154,10 @@ impl Holding {
         let end = instruments(m);
         let last = teams(n);
         let mut sizes = [0u8; 12];
-        for g in 0..end {
-            let t = owner[g] as usize;
+        for holder in &owner[..end] {
+            let t = usize::from(*holder);
             if t < last {
-                sizes[t] = sizes[t] + 1;
+                sizes[t] += 1;
             }
         }
         Holding::of(m, n, owner, shares, sizes)
@@ -171,9 +175,7 @@ impl Holding {
         requires { Right self }
         ensures { result ≡ measured_by self shares }
     {
-        let owner = self.owner;
-        let held = self.sizes;
-        Holding::of(self.m, self.n, owner, shares, held)
+        Holding::of(self.m, self.n, self.owner, shares, self.sizes)
     }
 
     // How many instruments the teams hold.
@@ -183,8 +185,8 @@ impl Holding {
     {
         let end = teams(self.n);
         let mut sum: usize = 0;
-        for t in 0..end {
-            sum += self.sizes[t] as usize;
+        for size in &self.sizes[..end] {
+            sum += usize::from(*size);
         }
         sum
     }
@@ -193,17 +195,18 @@ impl Holding {
     fn is_instrument(self, g: usize) -> bool
         ensures { result ≡ is_instrument self g }
     {
-        if g < self.m { g < 64 } else { false }
+        g < self.m && g < 64
     }
 
     // Whether t is one of the teams.
     fn is_team(self, t: usize) -> bool
         ensures { result ≡ is_team self t }
     {
-        if t < self.n { t < 12 } else { false }
+        t < self.n && t < 12
     }
 
     // The owner of g.
+    // Kept (point 1): `holder_of` says 255 past the table, as of an instrument in the pool.
     fn holder(self, g: usize) -> usize
         ensures { result ≡ holder_of self g }
     {
@@ -223,14 +226,10 @@ impl Holding {
         ensures next { result ≡ gave self g t }
         ensures right { Right result }
     {
-        if self.is_instrument(g) {
-            if self.is_team(t) {
-                if self.in_pool(g) {
-                    let mut owner = self.owner;
-                    owner[g] = t as u8;
-                    return self.with(owner, self.tally().raised(t));
-                }
-            }
+        if self.is_instrument(g) && self.is_team(t) && self.in_pool(g) {
+            let mut owner = self.owner;
+            owner[g] = t as u8;
+            return self.with(owner, self.tally().raised(t));
         }
         self
     }
@@ -241,13 +240,11 @@ impl Holding {
         ensures next { result ≡ returned self g }
         ensures right { Right result }
     {
-        if self.is_instrument(g) {
-            if !self.in_pool(g) {
-                let from = self.holder(g);
-                let mut owner = self.owner;
-                owner[g] = 255;
-                return self.with(owner, self.tally().lowered(from));
-            }
+        if self.is_instrument(g) && !self.in_pool(g) {
+            let from = self.holder(g);
+            let mut owner = self.owner;
+            owner[g] = 255;
+            return self.with(owner, self.tally().lowered(from));
         }
         self
     }
@@ -256,11 +253,7 @@ impl Holding {
     fn may_move(self, g: usize, t: usize) -> bool
         ensures { result ≡ may_move self g t }
     {
-        if self.is_instrument(g) {
-            self.is_team(t)
-        } else {
-            false
-        }
+        self.is_instrument(g) && self.is_team(t)
     }
 
     // Whether all moves fit, and none moves an instrument again.
@@ -272,10 +265,9 @@ impl Holding {
             return false;
         }
         let mut seen: u64 = 0;
-        for k in 0..count {
-            let g = moves.item[k] as usize;
-            let t = moves.to[k] as usize;
-            if !self.may_move(g, t) {
+        for step in &moves.list[..count] {
+            let g = step.item as usize;
+            if !self.may_move(g, step.to as usize) {
                 return false;
             }
             if sets::member(seen, g) {
@@ -292,24 +284,23 @@ impl Holding {
         requires { Right self × (moves_fit self moves ≡ true) }
         ensures { result ≡ carried_out self moves }
     {
-        let end = moves.count;
+        let steps = &moves.list[..moves.count];
         let last = teams(self.n);
-        let shares = self.shares;
         let mut owner = self.owner;
         let mut sizes = self.sizes;
-        for k in 0..end {
-            let g = moves.item[k] as usize;
-            let t = moves.to[k] as usize;
+        for step in steps {
+            let g = step.item as usize;
+            let t = step.to as usize;
             let from = owner[g] as usize;
             if from != t {
                 if from < last {
-                    sizes[from] = sizes[from] - 1;
+                    sizes[from] -= 1;
                 }
-                sizes[t] = sizes[t] + 1;
+                sizes[t] += 1;
             }
-            owner[g] = moves.to[k];
+            owner[g] = step.to;
         }
-        Holding::of(self.m, self.n, owner, shares, sizes)
+        Holding::of(self.m, self.n, owner, self.shares, sizes)
     }
 
     // Chain: carries out a list of moves, or none where one does not fit.
@@ -331,8 +322,8 @@ impl Holding {
     {
         let end = instruments(self.m);
         let mut words = [0u64; 12];
-        for g in 0..end {
-            let t = self.holder(g);
+        for (g, holder) in self.owner[..end].iter().enumerate() {
+            let t = usize::from(*holder);
             if t < 12 {
                 words[t] = sets::with(words[t], g);
             }
@@ -344,13 +335,6 @@ impl Holding {
     pub fn pool(self) -> u64
         ensures { Pool self result }
     {
-        let end = instruments(self.m);
-        let mut word: u64 = 0;
-        for g in 0..end {
-            if self.in_pool(g) {
-                word = sets::with(word, g);
-            }
-        }
-        word
+        sets::those(instruments(self.m), |g| self.in_pool(g))
     }
 }

@@ -1,2 +1,3 @@
 mod Naming
 pub mod Standing
+pub mod Numbered

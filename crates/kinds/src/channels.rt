@@ -10,21 +10,20 @@ use super::structure;
 use team::Team;
 
 // What a set is worth to a team.
-pub fn worth(team: Team, m: usize, set: u64) -> usize
+pub fn worth(team: &Team, m: usize, set: u64) -> usize
     requires { m ≤ 64 }
-    ensures { result ≡ worth (kind_matroid m team) (bit set) }
+    ensures { result ≡ worth (kind_matroid m team.now) (bit set) }
 {
-    let channels = team.channels as usize;
     let free = structure::worth(team, m, set);
-    if channels < free { channels } else { free }
+    free.min(usize::from(team.channels))
 }
 
 // The instruments below m, outside an independent set, that keep it independent.
-pub fn gains(team: Team, m: usize, set: u64) -> u64
+pub fn gains(team: &Team, m: usize, set: u64) -> u64
     requires { m ≤ 64 }
-    ensures { (kind_matroid m team).Indep (bit set) → MayJoin (kind_matroid m team) (bit set) result }
+    ensures { (kind_matroid m team.now).Indep (bit set) → MayJoin (kind_matroid m team.now) (bit set) result }
 {
-    let channels = team.channels as usize;
+    let channels = usize::from(team.channels);
     if channels <= sets::size_below(m, set) {
         return 0;
     }
@@ -37,20 +36,15 @@ fn spare(channels: usize, m: usize, set: u64, most: usize) -> usize
     ensures few { result ≤ most }
     ensures room { size m (bit set) ≤ channels → size m (bit set) + result ≤ channels }
 {
-    let used = sets::size_below(m, set);
-    if channels <= used {
-        return 0;
-    }
-    let free = channels - used;
-    if most < free { most } else { free }
+    let free = channels.saturating_sub(sets::size_below(m, set));
+    most.min(free)
 }
 
 // An independent set with members of another, at most so many more.
-pub fn grown(team: Team, m: usize, set: u64, from: u64, most: usize) -> u64
+pub fn grown(team: &Team, m: usize, set: u64, from: u64, most: usize) -> u64
     requires { m ≤ 64 }
-    ensures { Grown (kind_matroid m team) set from most result }
+    ensures { Grown (kind_matroid m team.now) set from most result }
 {
-    let channels = team.channels as usize;
-    let room = spare(channels, m, set, most);
+    let room = spare(usize::from(team.channels), m, set, most);
     structure::grown(team, m, set, from, room)
 }

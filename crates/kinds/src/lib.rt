@@ -1,4 +1,5 @@
 // What a set of instruments is worth by a valuation, and what may join it. Nothing above this crate knows a kind of team.
+// Kept (point 5): m ≤ 64 stands in each contract here and in the kinds' crates, since `worth_of`, `gains_of` and `grown` take m as a number.
 #![tactic(auto)]
 
 ghost use Rattle.std.specs.Prelude.{◌≡◌, true, false, ◌≤◌};
@@ -33,13 +34,18 @@ pub fn blank() -> Valuation
     }
 }
 
-// Whether the glued instruments are independent for the team.
-fn stands(team: Team, m: usize, glued: u64) -> bool
-    requires { m ≤ 64 }
-    ensures yes { result ≡ true → (kind_matroid m team).Indep (bit glued) }
-    ensures no { result ≡ false → (kind_matroid m team).Indep (bit glued) → ⊥ }
-{
-    channels::worth(team, m, glued) == sets::size_below(m, glued)
+impl Valuation {
+    // Whether the glued instruments are independent for the team. The empty set is for each, so its worth is not asked.
+    fn stands(&self, m: usize) -> bool
+        requires { m ≤ 64 }
+        ensures yes { result ≡ true → (kind_matroid m self.now.team).Indep (bit self.now.glued) }
+        ensures no { result ≡ false → (kind_matroid m self.now.team).Indep (bit self.now.glued) → ⊥ }
+    {
+        if self.glued == 0 {
+            return true;
+        }
+        channels::worth(&self.team, m, self.glued) == sets::size_below(m, self.glued)
+    }
 }
 
 // What a set is worth by a valuation among m instruments. Members at or above m are passed over.
@@ -47,14 +53,11 @@ pub fn worth_of(v: Valuation, m: usize, set: u64) -> usize
     requires { m ≤ 64 }
     ensures { result ≡ worth (matroid_of m v) (bit set) }
 {
-    let team = v.team;
-    let whole = sets::either(sets::both(set, v.usable), v.glued);
-    let worth = channels::worth(team, m, whole);
-    if v.glued != 0 {
-        if !stands(team, m, v.glued) {
-            return 0;
-        }
+    if !v.stands(m) {
+        return 0;
     }
+    let whole = sets::either(sets::both(set, v.usable), v.glued);
+    let worth = channels::worth(&v.team, m, whole);
     worth - sets::size_below(m, v.glued)
 }
 
@@ -63,13 +66,10 @@ pub fn gains_of(v: Valuation, m: usize, set: u64) -> u64
     requires { m ≤ 64 }
     ensures { (matroid_of m v).Indep (bit set) → MayJoin (matroid_of m v) (bit set) result }
 {
-    let team = v.team;
-    let free = channels::gains(team, m, sets::either(set, v.glued));
-    if v.glued != 0 {
-        if !stands(team, m, v.glued) {
-            return 0;
-        }
+    if !v.stands(m) {
+        return 0;
     }
+    let free = channels::gains(&v.team, m, sets::either(set, v.glued));
     sets::both(free, v.usable)
 }
 
@@ -78,16 +78,10 @@ pub fn grown(v: Valuation, m: usize, set: u64, from: u64, most: usize) -> u64
     requires { m ≤ 64 }
     ensures { Grown (matroid_of m v) set from most result }
 {
-    if most == 0 {
+    if most == 0 || !v.stands(m) {
         return set;
     }
-    let team = v.team;
     let offered = sets::both(from, v.usable);
-    let larger = channels::grown(team, m, sets::either(set, v.glued), offered, most);
-    if v.glued != 0 {
-        if !stands(team, m, v.glued) {
-            return set;
-        }
-    }
+    let larger = channels::grown(&v.team, m, sets::either(set, v.glued), offered, most);
     sets::either(set, sets::minus(larger, v.glued))
 }

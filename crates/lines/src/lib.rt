@@ -1,158 +1,88 @@
-// Lines of text as byte slices: their ends and words, and the numbers written in them; and the printing of answers to them.
+// Lines of text as byte slices: their words, and the numbers and bytes written in them; and the printing of answers to them.
 #![tactic(auto)]
 
-ghost use Rattle.std.specs.Prelude.{◌+◌, ◌≤◌, ◌<◌, length};
-ghost use Rattle.lines.specs.Counts.{IsPrefixLen};
+ghost use Rattle.std.specs.Prelude.{◌≡◌, ◌≢◌, ◌<◌, ◌≤◌, ◌-◌, ◌==◌, ℕ, codes, drop, length, min, slice_index, take};
+ghost use Rattle.std.specs.List.{after_first, before_first, prefix_len};
 
+pub mod answers;
+pub mod bytes;
 pub mod input;
+pub mod pieces;
 pub mod print;
+pub mod runs;
+pub mod sheets;
 
-// Whether a line is empty or a note.
-pub fn is_note(line: &[u8]) -> bool {
-    if line.len() == 0 {
-        return true;
+// What stands before the first `byte`, and what stands after it: all and nothing where there is none.
+pub fn split(text: &[u8], byte: u8) -> (&[u8], &[u8])
+    ensures front { length result.0.now ≤ length text.now }
+    ensures back { 0 < length text.now → length result.1.now < length text.now }
+    ensures before { result.0.now ≡ before_first (λ b. b == byte) text.now }
+    ensures after { result.1.now ≡ after_first (λ b. b == byte) text.now }
+{
+    match text.iter().position(|b| *b == byte) {
+        Some(at) => (&text[..at], &text[at + 1..]),
+        None => (text, &[]),
     }
-    line[0] == b'#'
 }
 
-// The index of the first `byte` from `from` on, and the length where there is none.
-pub fn find(text: &[u8], from: usize, byte: u8) -> usize
-    requires { from ≤ length text.now }
-    ensures { (from ≤ result) × (result ≤ length text.now) }
+// A text without the spaces that it starts with.
+pub fn trimmed(text: &[u8]) -> &[u8]
+    ensures short { length result.now ≤ length text.now }
+    ensures left { result.now ≡ drop (prefix_len (λ b. b == 32) text.now) text.now }
 {
-    let mut i = from;
-    while i < text.len() {
-        if text[i] == byte {
-            return i;
-        }
-        i += 1;
+    match text.iter().position(|b| *b != b' ') {
+        Some(start) => &text[start..],
+        None => &[],
     }
-    i
-}
-
-// The index of the first byte from `from` on that is not `byte`, and the length where there is none.
-pub fn skip(text: &[u8], from: usize, byte: u8) -> usize
-    requires { from ≤ length text.now }
-    ensures { (from ≤ result) × (result ≤ length text.now) }
-{
-    let mut i = from;
-    while i < text.len() {
-        if text[i] != byte {
-            return i;
-        }
-        i += 1;
-    }
-    i
-}
-
-// The end of the line that starts at `from`: the index of its line feed, or the length.
-pub fn line_end(text: &[u8], from: usize) -> usize
-    requires { from ≤ length text.now }
-    ensures { (from ≤ result) × (result ≤ length text.now) }
-{
-    find(text, from, b'\n')
-}
-
-// The end of the word that starts at `from`: the index of the space after it, or the length.
-pub fn word_end(line: &[u8], from: usize) -> usize
-    requires { from ≤ length line.now }
-    ensures { (from ≤ result) × (result ≤ length line.now) }
-{
-    find(line, from, b' ')
 }
 
 // The first word of a line that starts with no space.
-pub fn word(line: &[u8]) -> &[u8] {
-    let end = word_end(line, 0);
-    &line[0..end]
+pub fn word(line: &[u8]) -> &[u8]
+    ensures { result.now ≡ before_first (λ b. b == 32) line.now }
+{
+    split(line, b' ').0
 }
 
 // What follows the first word and the spaces after it.
-pub fn rest(line: &[u8]) -> &[u8] {
-    let start = skip(line, word_end(line, 0), b' ');
-    &line[start..]
+pub fn rest(line: &[u8]) -> &[u8]
+    ensures { let after = after_first (λ b. b == 32) line.now in result.now ≡ drop (prefix_len (λ b. b == 32) after) after }
+{
+    trimmed(split(line, b' ').1)
 }
 
 // What follows the first `byte`, and nothing where there is none.
-pub fn after(text: &[u8], byte: u8) -> &[u8] {
-    let at = find(text, 0, byte);
-    if at < text.len() {
-        return &text[at + 1..];
-    }
-    &text[at..]
+pub fn after(text: &[u8], byte: u8) -> &[u8]
+    ensures { result.now ≡ after_first (λ b. b == byte) text.now }
+{
+    split(text, byte).1
 }
 
 // The first n bytes, and all where there are fewer.
-pub fn front(bytes: &[u8], n: usize) -> &[u8] {
-    if n < bytes.len() {
-        return &bytes[0..n];
-    }
-    bytes
-}
-
-// Whether two slices hold the same bytes.
-pub fn same(a: &[u8], b: &[u8]) -> bool {
-    if a.len() != b.len() {
-        return false;
-    }
-    let mut i: usize = 0;
-    while i < a.len() {
-        if a[i] != b[i] {
-            return false;
-        }
-        i += 1;
-    }
-    true
-}
-
-// The value of a digit, hexadecimal ones in either case, and 16 for any other byte.
-pub fn digit(byte: u8) -> u8
-    ensures { result ≤ 16 }
+pub fn front(bytes: &[u8], n: usize) -> &[u8]
+    ensures short { length result.now ≤ length bytes.now }
+    ensures first { result.now ≡ take n bytes.now }
 {
-    match byte {
-        b'0'..=b'9' => byte - b'0',
-        b'a'..=b'f' => byte - b'a' + 10,
-        b'A'..=b'F' => byte - b'A' + 10,
-        _ => 16,
-    }
+    bytes.get(..n).unwrap_or(bytes)
 }
 
-// The byte that two hexadecimal digits write at `at`, and 256 where there are none.
-pub fn pair(text: &[u8], at: usize) -> usize
-    requires { at ≤ length text.now }
-    ensures { result < 256 → at + 2 ≤ length text.now }
+// The same of bytes that are lent to be written.
+pub fn front_mut(bytes: &mut [u8], n: usize) -> &mut [u8]
+    ensures { result.now ≡ take (min n (length bytes.old)) bytes.old }
 {
-    if text.len() - at < 2 {
-        return 256;
-    }
-    let high = digit(text[at]) as usize;
-    let low = digit(text[at + 1]) as usize;
-    if high > 15 {
-        return 256;
-    }
-    if low > 15 {
-        return 256;
-    }
-    high * 16 + low
+    let end = n.min(bytes.len());
+    &mut bytes[..end]
 }
 
-// Puts the bytes that the text writes as pairs of hexadecimal digits, with spaces between them or none, at the start of out.
-// The answer is how many. It stops where out is full or no pair stands.
-pub fn decode(text: &[u8], out: &mut [u8]) -> usize
-    ensures { IsPrefixLen result out.new }
+// The least offset from which on each byte is the filler.
+pub fn unchanged_from(space: &[u8], filler: u8) -> usize
+    ensures within { result ≤ length space.now }
+    ensures same { (k : ℕ) → result ≤ k → k < length space.now → slice_index space.now k ≡ filler }
+    ensures least { 0 < result → slice_index space.now (result - 1) ≢ filler }
 {
-    let mut k: usize = 0;
-    let mut at = skip(text, 0, b' ');
-    while k < out.len() {
-        let byte = pair(text, at);
-        if byte > 255 {
-            return k;
-        }
-        out[k] = byte as u8;
-        k += 1;
-        at = skip(text, at + 2, b' ');
-    }
-    k
+    space
+        .iter()
+        .rposition(|byte| *byte != filler)
+        .map_or(0, |last| last + 1)
 }
 
 // The decimal number that the text starts with, up to its last digit or its sixth.
@@ -160,17 +90,29 @@ pub fn number(text: &[u8]) -> usize
     ensures { result < 1000000 }
 {
     let mut value: usize = 0;
-    let mut i: usize = 0;
-    while i < text.len() {
-        let d = digit(text[i]);
-        if d > 9 {
-            return value;
+    for byte in text {
+        match char::from(*byte).to_digit(10) {
+            Some(digit) if value < 100000 => value = value * 10 + digit as usize,
+            _ => break,
         }
-        if value > 99999 {
-            return value;
-        }
-        value = value * 10 + d as usize;
-        i += 1;
     }
     value
+}
+
+// The same number, and the greatest of all where the first word is `max`.
+pub fn number_or_max(text: &[u8]) -> usize
+    ensures all { before_first (λ b. b == 32) text.now ≡ codes "max" → result ≡ usize.MAX }
+    ensures below { before_first (λ b. b == 32) text.now ≢ codes "max" → result < 1000000 }
+{
+    match word(text) {
+        b"max" => usize::MAX,
+        _ => number(text),
+    }
+}
+
+// A number as a byte, and 255 where it is greater.
+pub fn byte(n: usize) -> u8
+    ensures { result ≡ min n 255 }
+{
+    u8::try_from(n).unwrap_or(u8::MAX)
 }

@@ -1,27 +1,21 @@
-// Standard output, piece by piece. A write that fails is answered by its error.
-use std::io;
+// Standard output. A write that fails is answered by its error.
+use std::{fmt, io};
 
-// Bytes as they are.
-pub fn text(rt: &impl Print, bytes: &[u8]) -> io::Result<()> {
-    rt.write_all(bytes)
-}
+// Bytes that print as hexadecimal.
+#[derive(Clone, Copy)]
+pub struct InHex<'a>(pub &'a [u8]);
 
-// A number in decimal, after a mark such as a space.
-pub fn marked(rt: &impl Print, mark: &[u8], n: u64) -> io::Result<()> {
-    text(rt, mark)?;
-    print!(rt; "{n}")
-}
-
-// `REFUSED`, the number and the place of a refusal.
-pub fn refusal(rt: &impl Print, number: usize, place: usize) -> io::Result<()> {
-    marked(rt, b"REFUSED ", number as u64)?;
-    marked(rt, b" ", place as u64)
-}
-
-// Bytes in hexadecimal.
-pub fn hex(rt: &impl Print, bytes: &[u8]) -> io::Result<()> {
-    for byte in bytes {
-        print!(rt; "{byte:02x}")?;
+impl fmt::Display for InHex<'_> {
+    fn fmt<W: fmt::Write>(&self, f: &mut fmt::Formatter<W>) -> fmt::Result {
+        for byte in self.0 {
+            write!(f, "{byte:02x}")?;
+        }
+        Ok(())
     }
-    Ok(())
+}
+
+// `UNKNOWN` and a verb that a program does not know.
+pub fn unknown(rt: &impl Print, verb: &[u8]) -> io::Result<()> {
+    print!(rt; "UNKNOWN ")?;
+    rt.write_all(verb)
 }

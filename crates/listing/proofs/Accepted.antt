@@ -1,7 +1,7 @@
 -- What Check's acceptance, and Build's answer, tell about a sheet that is listed.
 use Prim.Native.Nat.{ℕ, ◌≤◌}
 use mathlib.Core.Path.{◌≡◌, refl, sym, ap, ◌∙◌, subst}
-use mathlib.Core.Bool.{Bool, true, false, not, cond}
+use mathlib.Core.Bool.{Bool, true, false, not, cond, false≢true}
 use mathlib.Core.List.{List}
 use native.Mathlib.Omega.{arith}
 use lib.Dec.{eqb, ltb}
@@ -12,13 +12,13 @@ use Rattle.plan.specs.Read.{read_plan}
 use Rattle.plan.proofs.Bounds.{bounded}
 use Rattle.sheet.specs.Layout.{length_of}
 use Rattle.sheet.proofs.Sizes.{length_le}
-use Rattle.checker.specs.declared.Verdict.{Verdict}
-use Rattle.checker.specs.declared.Verdict.TheVariants as verdict
+use Rattle.std.proofs.Common.{Ok, Err, is_ok}
+use Rattle.command.specs.declared.refusal.Refusal.{Refusal}
+use Rattle.command.specs.Refusal.{refuse}
+use Rattle.checker.specs.Verdict.{Verdict, Accepted}
 use Rattle.checker.specs.Check.{check_sheet}
 use Rattle.checker.proofs.Acceptance.{stated}
-use Rattle.builder.specs.declared.Built.{Built}
-use Rattle.builder.specs.declared.Built.TheVariants.{Refused, Wrote}
-use Rattle.builder.specs.Build.{answer_by, build_answer, built_number, built_place, built_length, Answered}
+use Rattle.builder.specs.Build.{Built, answer_by, build_answer, built_number, built_place, built_length, Answered}
 use Rattle.builder.specs.Build as build
 use Rattle.listing.specs.Listing.{listing, listing_by, refusal_line}
 use Rattle.listing.specs.Lent.{text_answer, text_in}
@@ -35,7 +35,7 @@ pub record Shaped (r : Reading) (sheet : List ℕ) : Type 0 where
   pub long : length sheet ≡ length_of r.m r.n
   pub head : 4 ≤ length sheet
 
-pub shaped : (plan sheet : List ℕ) (v : Verdict) → v ≡ check_sheet plan sheet → v ≡ verdict.Accepted → Shaped (read_plan plan) sheet
+pub shaped : (plan sheet : List ℕ) (v : Verdict) → v ≡ check_sheet plan sheet → v ≡ Accepted → Shaped (read_plan plan) sheet
 shaped plan sheet v is e =
     let s = stated (read_plan plan) sheet (sym e ∙ is) in
     let valid = (bounded plan).valid s.read in
@@ -49,34 +49,30 @@ shape_fits {r} {sheet} {m} {n} s m-is n-is =
     rw (em, en) (s.small, s.few, let e = s.long in omega arith)
 
 -- the listing by HEAD's m and n is the one by the plan's
-pub list_accepted : (plan sheet buffer after : List ℕ) (v : Verdict) (m n : ℕ) (r : Built) → v ≡ check_sheet plan sheet → v ≡ verdict.Accepted → m ≡ get_or sheet 1 0 → n ≡ get_or sheet 2 0
+pub list_accepted : (plan sheet buffer after : List ℕ) (v : Verdict) (m n : ℕ) (r : Built) → v ≡ check_sheet plan sheet → v ≡ Accepted → m ≡ get_or sheet 1 0 → n ≡ get_or sheet 2 0
     → r ≡ text_answer (listing m n sheet) buffer → after ≡ text_in (listing m n sheet) buffer → (r ≡ list_answer plan sheet buffer) × (after ≡ list_bytes plan sheet buffer)
 list_accepted plan sheet buffer after v m n r is e m-is n-is answer bytes =
     let s = shaped plan sheet v is e in
     let text : listing m n sheet ≡ listing_by (read_plan plan) sheet = ap (λ (k : ℕ). listing k n sheet) (m-is ∙ s.m) ∙ ap (λ (k : ℕ). listing (read_plan plan).m k sheet) (n-is ∙ s.n) in
-    let told : check_sheet plan sheet ≡ verdict.Accepted = sym is ∙ e in
+    let told : check_sheet plan sheet ≡ Accepted = sym is ∙ e in
     rw told (answer ∙ ap (λ (x : List ℕ). text_answer x buffer) text, bytes ∙ ap (λ (x : List ℕ). text_in x buffer) text)
 
-pub list_refused : (plan sheet buffer : List ℕ) (v : Verdict) (number place : ℕ) → v ≡ check_sheet plan sheet → v ≡ verdict.Refused number place → (Refused number place ≡ list_answer plan sheet buffer) × (buffer ≡ list_bytes plan sheet buffer)
-list_refused plan sheet buffer v number place is e = let told : check_sheet plan sheet ≡ verdict.Refused number place = sym is ∙ e in rw told (refl, refl)
+pub list_refused : (plan sheet buffer : List ℕ) (v : Verdict) (x : Refusal) → v ≡ check_sheet plan sheet → v ≡ Err x → (Err x ≡ list_answer plan sheet buffer) × (buffer ≡ list_bytes plan sheet buffer)
+list_refused plan sheet buffer v x is e = let told : check_sheet plan sheet ≡ Err x = sym is ∙ e in rw told (refl, refl)
 
 -- ---- what Build answers in 2,642 bytes
 
 -- a sheet that it wrote
 pub record Built-sheet (plan after : List ℕ) (long : ℕ) : Type 0 where
   pub inside : long ≤ length after
-  pub accepted : check_sheet plan (take long after) ≡ verdict.Accepted
+  pub accepted : check_sheet plan (take long after) ≡ Accepted
 
-pub built_sheet : (plan before after : List ℕ) (b : Built) (long : ℕ) → Answered plan before after b → b ≡ Wrote long → Built-sheet plan after long
-built_sheet plan before after b long (build.untouched number place same) e = absurd (let z : ◌≡◌ {A = ℕ} 0 1 = ap wrote e in omega arith)
-  where
-    wrote : Built → ℕ
-    wrote (Refused number place) = 0
-    wrote (Wrote long) = 1
+pub built_sheet : (plan before after : List ℕ) (b : Built) (long : ℕ) → Answered plan before after b → b ≡ Ok long → Built-sheet plan after long
+built_sheet plan before after b long (build.untouched number place same) e = absurd (false≢true (ap is_ok e))
 built_sheet plan before after b long (build.sheet long' same inside ok rest) e = subst (Built-sheet plan after) (ap built_length e) (record { inside = omega arith; accepted = ok })
 
 -- where it refuses, it is the plan's refusal
-pub built_refused : (plan before : List ℕ) (number place : ℕ) → 2642 ≤ length before → build_answer plan before ≡ Refused number place
+pub built_refused : (plan before : List ℕ) (number place : ℕ) → 2642 ≤ length before → build_answer plan before ≡ refuse number place
     → ((read_plan plan).refusal ≡ 0 → ⊥) × ((read_plan plan).refusal ≡ number) × ((read_plan plan).place ≡ place)
 unfolding answer_by
 built_refused plan before number place room e = go (eqb r.refusal 0) refl e
@@ -84,23 +80,19 @@ built_refused plan before number place room e = go (eqb r.refusal 0) refl e
     r : Reading
     r = read_plan plan
 
-    refuses : Built → ℕ
-    refuses (Refused number place) = 1
-    refuses (Wrote long) = 0
-
-    short : (b : Bool) → ltb (length before) (length_of r.m r.n) ≡ b → length_of r.m r.n ≤ 2642 → cond b (Refused 10 (length_of r.m r.n)) (Wrote (length_of r.m r.n)) ≡ Refused number place → ⊥
+    short : (b : Bool) → ltb (length before) (length_of r.m r.n) ≡ b → length_of r.m r.n ≤ 2642 → cond b (refuse 10 (length_of r.m r.n)) (Ok (length_of r.m r.n)) ≡ refuse number place → ⊥
     short true t l e = let z = ltb-true (length before) (length_of r.m r.n) t in omega arith
-    short false t l e = let z : ◌≡◌ {A = ℕ} 0 1 = ap refuses e in omega arith
+    short false t l e = false≢true (sym (ap is_ok e))
 
     go : (b : Bool) → eqb r.refusal 0 ≡ b
-        → cond (not b) (Refused r.refusal r.place) (cond (ltb (length before) (length_of r.m r.n)) (Refused 10 (length_of r.m r.n)) (Wrote (length_of r.m r.n))) ≡ Refused number place
+        → cond (not b) (refuse r.refusal r.place) (cond (ltb (length before) (length_of r.m r.n)) (refuse 10 (length_of r.m r.n)) (Ok (length_of r.m r.n))) ≡ refuse number place
         → (r.refusal ≡ 0 → ⊥) × (r.refusal ≡ number) × (r.place ≡ place)
     go true t e = let v = (bounded plan).valid (eqb-true r.refusal 0 t) in absurd (short (ltb (length before) (length_of r.m r.n)) refl (length_le r.m r.n v.small v.few) e)
     go false t e = (eqb-false r.refusal 0 t, ap built_number e, ap built_place e)
 
 -- ---- the text of a plan
 
-pub week_listed : (plan sheet buffer after : List ℕ) (r : Built) → check_sheet plan sheet ≡ verdict.Accepted → r ≡ list_answer plan sheet buffer → after ≡ list_bytes plan sheet buffer → Week plan buffer after r
+pub week_listed : (plan sheet buffer after : List ℕ) (r : Built) → check_sheet plan sheet ≡ Accepted → r ≡ list_answer plan sheet buffer → after ≡ list_bytes plan sheet buffer → Week plan buffer after r
 week_listed plan sheet buffer after r ok answer bytes = record {
   text = listing_by (read_plan plan) sheet;
   is = listed sheet ok;
@@ -108,7 +100,7 @@ week_listed plan sheet buffer after r ok answer bytes = record {
   bytes = bytes ∙ ap (λ (v : Verdict). bytes_by v (listing_by (read_plan plan) sheet) buffer) ok;
 }
 
-pub week_refused : (plan before buffer after : List ℕ) (b : Built) (number place : ℕ) (r : Built) → 2642 ≤ length before → b ≡ build_answer plan before → b ≡ Refused number place
+pub week_refused : (plan before buffer after : List ℕ) (b : Built) (number place : ℕ) (r : Built) → 2642 ≤ length before → b ≡ build_answer plan before → b ≡ refuse number place
     → r ≡ text_answer (refusal_line number place) buffer → after ≡ text_in (refusal_line number place) buffer → Week plan buffer after r
 week_refused plan before buffer after b number place r room is e answer bytes =
     let (refuses, n, p) = built_refused plan before number place room (sym is ∙ e) in

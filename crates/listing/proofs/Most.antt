@@ -17,7 +17,7 @@ use Rattle.plan.specs.declared.Reading.{Reading}
 use Rattle.plan.specs.Read.{read_plan}
 use Rattle.plan.proofs.Bounds.{bounded}
 use Rattle.sheet.specs.Fields.{total_at, holder_at, share_at}
-use Rattle.checker.specs.declared.Verdict.TheVariants.{Accepted}
+use Rattle.checker.specs.Verdict.{Accepted}
 use Rattle.checker.specs.Check.{check_sheet}
 use Rattle.checker.specs.Stated.{Stated}
 use Rattle.checker.proofs.Acceptance.{stated, given_sum}

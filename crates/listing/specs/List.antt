@@ -1,22 +1,20 @@
 -- The listing of a sheet, by a plan: Check's refusals come first, and then the buffer is as it was.
-use Rattle.std.specs.Prelude.{ℕ, List}
+use Rattle.std.specs.Prelude.{ℕ, List, Ok, Err}
 use Rattle.plan.specs.Read.{read_plan}
-use Rattle.checker.specs.declared.Verdict.{Verdict}
-use Rattle.checker.specs.declared.Verdict.TheVariants as verdict
+use Rattle.checker.specs.Verdict.{Verdict}
 use Rattle.checker.specs.Check.{check_sheet}
-use Rattle.builder.specs.declared.Built.{Built}
-use Rattle.builder.specs.declared.Built.TheVariants.{Refused}
+use Rattle.builder.specs.Build.{Built}
 use Rattle.listing.specs.Listing.{listing_by}
 use Rattle.listing.specs.Lent.{text_answer, text_in}
 
 -- by Check's verdict
 abbrev pub answer_by : Verdict → (text buffer : List ℕ) → Built
-answer_by verdict.Accepted text buffer = text_answer text buffer
-answer_by (verdict.Refused number place) text buffer = Refused number place
+answer_by (Ok x) text buffer = text_answer text buffer
+answer_by (Err refusal) text buffer = Err refusal
 
 abbrev pub bytes_by : Verdict → (text buffer : List ℕ) → List ℕ
-bytes_by verdict.Accepted text buffer = text_in text buffer
-bytes_by (verdict.Refused number place) text buffer = buffer
+bytes_by (Ok x) text buffer = text_in text buffer
+bytes_by (Err refusal) text buffer = buffer
 
 -- the answer
 abbrev pub list_answer : (plan sheet buffer : List ℕ) → Built

@@ -1,9 +1,9 @@
 -- What the program `divide` prints of a plan: the listing of a sheet that Check accepts, or the plan's refusal. Several sheets may be good.
 use Rattle.std.specs.Prelude.{ℕ, ◌≡◌, List}
 use Rattle.plan.specs.Read.{read_plan}
-use Rattle.checker.specs.declared.Verdict.TheVariants.{Accepted}
+use Rattle.checker.specs.Verdict.{Accepted}
 use Rattle.checker.specs.Check.{check_sheet}
-use Rattle.builder.specs.declared.Built.{Built}
+use Rattle.builder.specs.Build.{Built}
 use Rattle.listing.specs.Listing.{listing_by, refusal_line}
 use Rattle.listing.specs.Lent.{text_answer, text_in}
 

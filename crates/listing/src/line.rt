@@ -1,4 +1,5 @@
 // The lines of the weekly listing, and of a refusal.
+// Kept (point 5): m ≤ 64 and n ≤ 12 stand in each contract, as in `sheet`.
 ghost use Rattle.std.specs.Prelude.{◌+◌, ◌*◌, ◌≤◌, ◌<◌, length};
 ghost use Rattle.matroid.specs.Cuts.{each};
 ghost use Rattle.sheet.specs.Layout.{length_of, give_start, share_start};

@@ -20,13 +20,14 @@ pub fn word(buffer: &mut [u8], at: usize, bytes: &[u8]) -> usize
     ensures { Put buffer.old at bytes.now buffer.new result }
 {
     let mut next = at;
-    for k in 0..bytes.len() {
-        next = byte(buffer, next, bytes[k]);
+    for b in bytes {
+        next = byte(buffer, next, *b);
     }
     next
 }
 
 // A number in decimal. Its digits are made from the last one on.
+// Kept (points 3, 4): the bytes go into a lent buffer as far as it reaches, which std's formatting does not do (decision 22).
 fn decimal(buffer: &mut [u8], at: usize, n: usize) -> usize
     requires { at ≤ 100000 }
     ensures put { Put buffer.old at (Text·decimal n) buffer.new result }

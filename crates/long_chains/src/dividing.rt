@@ -1,90 +1,51 @@
 // The verb `divide HEX`: the division of a plan as the weekly listing shows it.
+use command::refusal::Refusal;
 use engine::divide::Division;
-use engine::share::Shared;
 use exchange::Agents;
-use lines::print;
+use lines::bytes;
 use std::io;
-use std::num::wrapping_add_u64;
-
-// How many of m instruments a table places with a team, not in the pool.
-fn total(owner: [u8; 64], m: usize) -> u64 {
-    let mut count: u64 = 0;
-    for g in 0..64usize {
-        let place = owner[g];
-        if g < m {
-            if place != 255 {
-                count = wrapping_add_u64(count, 1);
-            }
-        }
-    }
-    count
-}
 
 // The instruments that a table places with p, rising, each after a space.
-fn placed(rt: &impl Print, owner: [u8; 64], m: usize, p: usize) -> io::Result<()> {
-    for g in 0..64usize {
-        let place = owner[g] as usize;
-        if g < m {
-            if place == p {
-                print::marked(rt, b" ", g as u64)?;
-            }
+fn placed(rt: &impl Print, owner: &[u8], p: usize) -> io::Result<()> {
+    for (g, place) in owner.iter().enumerate() {
+        if usize::from(*place) == p {
+            print!(rt; " {g}")?;
         }
     }
     Ok(())
 }
 
-// A line for each of n teams: its share and the instruments it holds.
-fn teams(
-    rt: &impl Print,
-    owner: [u8; 64],
-    shares: [Shared; 12],
-    m: usize,
-    n: usize,
-) -> io::Result<()> {
-    for t in 0..12usize {
-        let shared = shares[t];
-        if t < n {
-            print::marked(rt, b"\nTEAM ", t as u64)?;
-            print::marked(rt, b" SHARE ", shared.share as u64)?;
-            print::text(rt, b" HOLDS")?;
-            placed(rt, owner, m, t)?;
-        }
+// The whole listing of a division: the total, which counts the instruments that are not in the pool, a line for each team, and the pool.
+fn show(rt: &impl Print, division: &Division) -> io::Result<()> {
+    let holding = division.holding;
+    let owner = lines::front(&holding.owner, holding.m);
+    let total = owner.iter().filter(|place| **place != 255).count();
+    print!(rt; "TOTAL {total}")?;
+    for (t, shared) in division.shares.iter().enumerate().take(holding.n) {
+        print!(rt; "\nTEAM {t} SHARE {} HOLDS", shared.share)?;
+        placed(rt, owner, t)?;
     }
-    Ok(())
+    print!(rt; "\nPOOL")?;
+    placed(rt, owner, 255)
 }
 
-// The whole listing of a division.
-fn show(rt: &impl Print, r: Division, m: usize, n: usize) -> io::Result<()> {
-    let holding = r.holding;
-    let owner = holding.owner;
-    let shares = r.shares;
-    print::marked(rt, b"TOTAL ", total(owner, m))?;
-    teams(rt, owner, shares, m, n)?;
-    print::text(rt, b"\nPOOL")?;
-    placed(rt, owner, m, 255)
-}
-
-// Divides a plan.
-fn plan_of(rt: &impl Print, file: &[u8]) -> io::Result<()> {
+// The division of a plan.
+fn division(file: &[u8]) -> Result<Division, Refusal> {
     let r = plan::read(file);
-    if r.refusal != 0 {
-        return print::refusal(rt, r.refusal, r.place);
-    }
-    let m = r.m;
-    let n = r.n;
-    let valuations = plan::valuations_of(r);
-    let here = plan::present_of(r);
-    show(
-        rt,
-        engine::divide::divide(Agents { m, n, valuations }, here),
-        m,
-        n,
-    )
+    r.accepted()?;
+    let agents = Agents {
+        m: r.m,
+        n: r.n,
+        valuations: plan::valuations_of(r),
+    };
+    Ok(engine::divide::divide(agents, plan::present_of(r)))
 }
 
 // Answers the verb.
 pub fn answer(rt: &impl Print, hex: &[u8]) -> io::Result<()> {
     let mut space = [0u8; 4096];
-    let k = lines::decode(hex, &mut space);
-    plan_of(rt, &space[..k])
+    match division(bytes::decoded(hex, &mut space)) {
+        Ok(division) => show(rt, &division),
+        Err(refusal) => print!(rt; "{refusal}"),
+    }
 }

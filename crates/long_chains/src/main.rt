@@ -3,49 +3,24 @@
 // other line is a verb and its operands.
 #![tactic(auto)]
 
-use lines::{input, print};
+use lines::{answers, print};
 use std::io;
 
 mod dividing;
 
 // Answers a line that is a verb and its operands.
-fn perform(rt: &impl Print, line: &[u8]) -> io::Result<()> {
-    let verb = lines::word(line);
-    let operands = lines::rest(line);
-    if lines::same(verb, b"divide") {
-        return dividing::answer(rt, operands);
-    }
-    if lines::same(verb, b"hold") {
-        return stepping::answer(rt, operands);
-    }
-    print::text(rt, b"UNKNOWN ")?;
-    print::text(rt, verb)
-}
-
-// Answers a line.
 fn answer(rt: &impl Print, line: &[u8]) -> io::Result<()> {
-    if lines::is_note(line) {
-        print::text(rt, line)?;
-    } else {
-        perform(rt, line)?;
+    let operands = lines::rest(line);
+    match lines::word(line) {
+        b"divide" => dividing::answer(rt, operands)?,
+        b"hold" => stepping::answer(rt, operands)?,
+        verb => print::unknown(rt, verb)?,
     }
-    print::text(rt, b"\n")
-}
-
-// Answers each line of a text.
-fn run(rt: &impl Print, text: &[u8]) -> io::Result<()> {
-    let mut at: usize = 0;
-    while at < text.len() {
-        let end = lines::line_end(text, at);
-        answer(rt, &text[at..end])?;
-        at = end + 1;
-    }
-    Ok(())
+    println!(rt)
 }
 
 // Of standard input the first 65,536 bytes are read.
 fn main(rt: HostRuntime) -> io::Result<()> {
     let mut space = [0u8; 65536];
-    let n = input::read_full(&rt, &mut space)?;
-    run(&rt, &space[..n])
+    answers::to_input(&rt, &mut space, |line| answer(&rt, line))
 }

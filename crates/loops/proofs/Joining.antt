@@ -1,24 +1,27 @@
 -- What a set is worth, what may join it and what joins it, by the forest carried along its gauges.
-use Prim.Native.Nat.{ℕ, suc, ◌+◌, ◌≤◌, ◌<◌}
-use mathlib.Core.Path.{◌≡◌, ◌∙◌, subst, subst⁻¹}
-use mathlib.Core.Bool.{true, false, not, ◌||◌}
+use Prim.Native.Nat.{ℕ, ◌≤◌, ◌<◌}
+use mathlib.Core.Path.{◌≡◌, refl, ◌∙◌, subst, subst⁻¹}
+use mathlib.Core.Bool.{Bool, not, ◌||◌}
 use mathlib.Core.List.{List}
 use mathlib.Core.Logic.Iff
 use mathlib.Core.Logic.{◌↔◌, inl, inr}
 use native.Mathlib.Omega.{arith}
-use native.Mathlib.Decide.{ℕ_discrete}
-use lib.Dec.{T, T_not, not_T, lt→ltb}
+use lib.Dec.{T, ltb, T_not, not_T, lt→ltb, ltb→lt}
+use lib.ListN.{length, get_or}
 use Rattle.matroid.specs.Taut.{both, and_left, and_right, or_cases, decide_T, follows₂}
 use Rattle.matroid.specs.Set.{Set, ◌∪◌, ◌∩◌, ◌∖◌, Within, under, with, size}
-use Rattle.matroid.specs.SetLaws.{with_cases, with_new, with_old, with_least, within_trans, size_same, size_within}
+use Rattle.matroid.specs.SetLaws.{with_new, with_old, with_least, within_trans, size_same, size_within}
 use Rattle.matroid.specs.Matroid.{worth}
 use Rattle.matroid.proofs.Sets.{size_le}
 use Rattle.sets.specs.Bits.{bit}
+use Rattle.sets.specs.Chosen.{Chosen}
+use Rattle.sets.proofs.Choosing.{chosen_bits}
+use Rattle.std.proofs.lemmas.List.{get_or_default}
 use Rattle.sets.specs.Joining.{MayJoin, Grown}
 use Rattle.sets.proofs.Below.{bit_none}
 use Rattle.loops.specs.Net.{Net, LoopFree}
 use Rattle.loops.specs.Groups.{apart, on, carried}
-use Rattle.loops.specs.Graphic.{graphic, loop_free_part}
+use Rattle.loops.specs.Graphic.{graphic, net_of, loop_free_part}
 use Rattle.loops.specs.Accepting.{accepted_joins, accepted_worth}
 use Rattle.loops.specs.Forests.{groups_of, Forest, forest, CarriedOn}
 use Rattle.loops.proofs.Accepting.{apart_holds, row_gauges, gauges_row, carried_free}
@@ -31,37 +34,21 @@ with_within {B = B} g h = with_least g (within_trans h (with_old B g)) (with_new
 pub record Free (N : Net) (groups : List ℕ) (g free : ℕ) : Type 0 where
   pub at : (j : ℕ) → T (bit free j) ↔ ((j < g) × T (apart (groups_of groups) (N.end_a j) (N.end_b j)))
 
-module _ (N : Net) (groups : List ℕ) where
-  open N use {end_a, end_b}
-
-  pub free_none : Free N groups 0 0
-  free_none = record { at = λ j. (λ t. absurd (subst T (bit_none j) t), λ (l, b). absurd (omega arith)) }
-
-  module _ (g free : ℕ) (f : Free N groups g free) (a b : ℕ) (is-a : a ≡ end_a g) (is_b : b ≡ end_b g) where
-    pub free_take : (next : ℕ) → apart (groups_of groups) a b ≡ true → ((j : ℕ) → bit next j ≡ with (bit free) g j) → Free N groups (g + 1) next
-    free_take next t is = record {
-      at = λ j. (
-        λ s. elim (with_cases (bit free) g j (subst T (is j) s)) [
-          | inl old ↦ (let l = ((f.at j).0 old).0 in omega arith, ((f.at j).0 old).1)
-          | inr e ↦ (omega arith, rw e (subst⁻¹ T (rw (is-a, is_b) at t) tt))
-        ],
-        λ (l, joins). subst⁻¹ T (is j) (elim (ℕ_discrete j g) [
-          | yes e ↦ subst⁻¹ (λ (x : ℕ). T (with (bit free) g x)) e (with_new (bit free) g)
-          | no d ↦ (with_old {m = suc j} (bit free) g).at j (omega arith) ((f.at j).1 (omega arith, joins))
-        ]),
+-- as a test picks them
+pub free_chosen : (N : Net) (groups : List ℕ) (m free : ℕ) (answers : ℕ → Bool → Type 0) → Chosen m answers free
+    → ((g : ℕ) (b : Bool) → g < m → answers g b → b ≡ apart (groups_of groups) (N.end_a g) (N.end_b g)) → Free N groups m free
+free_chosen N groups m free answers h is = record {
+  at = λ j.
+      let e = chosen_bits answers (λ g. apart (groups_of groups) (N.end_a g) (N.end_b g)) m free h is j in (
+        λ t. let u = subst T e t in (ltb→lt j m (and_left (ltb j m) _ u), and_right (ltb j m) _ u),
+        λ (l, t). subst⁻¹ T e (both (ltb j m) _ (lt→ltb j m l) t),
       );
-    }
+}
 
-    pub free_skip : apart (groups_of groups) a b ≡ false → Free N groups (g + 1) free
-    free_skip t = record {
-      at = λ j. (
-        λ s. (let l = ((f.at j).0 s).0 in omega arith, ((f.at j).0 s).1),
-        λ (l, joins). elim (ℕ_discrete j g) [
-          | yes e ↦ absurd (subst T (rw (is-a, is_b) at t) (rw e at joins))
-          | no d ↦ (f.at j).1 (omega arith, joins)
-        ],
-      );
-    }
+-- of an instrument, as the code reads its two joints
+pub apart_here : (first second groups : List ℕ) (g d e : ℕ) → g < length first → g < length second
+    → apart (groups_of groups) (get_or first g d) (get_or second g e) ≡ apart (groups_of groups) ((net_of first second).end_a g) ((net_of first second).end_b g)
+apart_here first second groups g d e l k = rw (get_or_default first g d 255 l, get_or_default second g e 255 k) refl
 
 -- what is carried on from no gauge, with room for all gauges of a set
 module _ (N : Net) (m set : ℕ) (none : List ℕ) (held : Forest) (small : m ≤ 64) (c : CarriedOn N m (forest 0 none) set 64 held) where

@@ -3,3 +3,4 @@ pub mod Accepting
 pub mod Carrying
 pub mod Joining
 pub mod Parallel
+pub mod Reading

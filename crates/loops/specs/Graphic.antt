@@ -15,7 +15,7 @@ use Rattle.matroid.specs.Matroid.{Matroid, Gain}
 use Rattle.team.specs.Team.{joints}
 use Rattle.loops.specs.Net.{Net, net, spans, ClosedLoop, back, LoopFree}
 use Rattle.loops.specs.Links.{spans_iff, loop_in, joins_relate, joins_unrelate, joins_spans}
-use Rattle.sets.proofs.Members.{run}
+use Rattle.sets.proofs.Through.{run}
 use Rattle.loops.specs.Trail.{trail, close}
 use Rattle.loops.specs.Groups.{same_label}
 use Rattle.loops.specs.Labels.{labels, Taken, Together, Bridges, bridges?, no_bridge, labels_skip, taken_together, together_walk, together_least, groups, groups_same, groups_bridge, groups_coarser}

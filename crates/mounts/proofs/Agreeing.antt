@@ -1,17 +1,19 @@
 -- Where two tables of mounts agree on the instruments that matter, what is said by one holds by the other.
 use Prim.Native.Nat.{ℕ, ◌≤◌, ◌<◌}
-use mathlib.Core.Path.{◌≡◌, sym, subst}
+use mathlib.Core.Path.{◌≡◌, sym, subst, subst⁻¹}
+use mathlib.Core.Bool.{◌||◌}
 use mathlib.Core.Logic.{inl, inr}
 use mathlib.Core.List.{List}
 use native.Mathlib.Omega.{arith}
 use lib.Dec.{T}
-use Rattle.matroid.specs.Set.{Set, Within}
+use Rattle.matroid.specs.Taut.{follows₂}
+use Rattle.matroid.specs.Set.{Set, ◌∪◌, Within}
 use Rattle.matroid.specs.Matroid.{worth}
 use Rattle.matroid.proofs.Rank.{worth_attained, worth_most}
 use Rattle.sets.specs.Bits.{bit}
 use Rattle.sets.specs.Joining.{MayJoin, Grown}
 use Rattle.mounts.specs.Mounts.{Mounted, fits_of}
-use Rattle.mounts.specs.Transversal.{mounted_in, transversal}
+use Rattle.mounts.specs.Transversal.{mounted_in, transversal, mounts_of}
 use Rattle.mounts.specs.Matching.{fits_in, Worded}
 
 -- the mounts of each member of S below m are the same
@@ -73,3 +75,11 @@ module _ (m : ℕ) (S : Set) where
       new = h.new;
       few = h.few;
     }
+
+-- grown by the words of the members of both sets
+pub grown_worded : (m : ℕ) (named first second third fourth words : List ℕ) (set from both most r : ℕ) → m ≤ 64 → Worded named first second third fourth both words
+    → ((j : ℕ) → bit both j ≡ (bit set ∪ bit from) j) → Grown (transversal (fits_in words) m) set from most r → Grown (mounts_of m named first second third fourth) set from most r
+grown_worded m named first second third fourth words set from both most r small w is =
+    grown_agree m (bit both) _ _ (worded_agree m named first second third fourth both words small w) set from most r
+    (λ j t. subst⁻¹ T (is j) (follows₂ (λ a b. a) (λ a b. a || b) tt (bit set j) (bit from j) t))
+    (λ j t. subst⁻¹ T (is j) (follows₂ (λ a b. b) (λ a b. a || b) tt (bit set j) (bit from j) t))

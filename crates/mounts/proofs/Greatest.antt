@@ -11,7 +11,7 @@ use Rattle.matroid.specs.Set.{Set, under, with}
 use Rattle.matroid.specs.SetLaws.{with_cases, with_new}
 use Rattle.sets.specs.Bits.{bit}
 use Rattle.sets.proofs.Below.{bit_none}
-use Rattle.sets.proofs.Members.{Rests}
+use Rattle.sets.proofs.Through.{Rests}
 use Rattle.mounts.specs.declared.matching.Matching.{Matching}
 use Rattle.mounts.specs.Mounts.{Mounted}
 use Rattle.mounts.specs.Transversal.{mounted_in}

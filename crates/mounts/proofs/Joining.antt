@@ -1,11 +1,11 @@
 -- What may join an independent set of MOUNTS, and what a set is worth.
-use Prim.Native.Nat.{ℕ, suc, ◌+◌, ◌≤◌, ◌<◌}
+use Prim.Native.Nat.{ℕ, suc, ◌≤◌, ◌<◌}
 use mathlib.Core.Path.{◌≡◌, subst, subst⁻¹}
-use mathlib.Core.Bool.{not}
+use mathlib.Core.Bool.{Bool, not}
 use mathlib.Core.Logic.{inl, inr}
 use native.Mathlib.Omega.{arith}
 use native.Mathlib.Nat.{le_refl}
-use native.Mathlib.Decide.{ℕ_discrete}
+use native.Mathlib.Decide.{dec_lt}
 use lib.Dec.{T, T_not, not_T}
 use lib.ListN.{get_or}
 use Rattle.matroid.specs.Taut.{decide_T, both, and_left, and_right}
@@ -14,14 +14,14 @@ use Rattle.matroid.specs.SetLaws.{with_cases, with_new}
 use Rattle.matroid.specs.Matroid.{worth}
 use Rattle.matroid.proofs.Rank.{maximal_is_worth}
 use Rattle.sets.specs.Bits.{bit}
+use Rattle.sets.specs.Chosen.{Chosen}
 use Rattle.sets.specs.Joining.{MayJoin}
-use Rattle.sets.proofs.Below.{bit_none}
 use Rattle.mounts.specs.declared.matching.Matching.{Matching}
 use Rattle.mounts.specs.declared.matching.Freed.{Freed}
 use Rattle.mounts.specs.Mounts.{Mounted}
 use Rattle.mounts.specs.Transversal.{mounted_in, transversal}
 use Rattle.mounts.proofs.Widths.{narrower, wider}
-use Rattle.mounts.specs.Matching.{Leads, Closed, Greatest}
+use Rattle.mounts.specs.Matching.{Meets, Leads, Closed, Greatest}
 use Rattle.mounts.proofs.Placing.{old_in, placed_mounted}
 use Rattle.mounts.proofs.Reaching.{blocked, moving_start, reachable}
 
@@ -52,31 +52,17 @@ pub record Near (fits : ℕ → Set) (s : Freed) (g joins : ℕ) : Type 0 where
   pub some : (j : ℕ) → T (bit joins j) → (c : ℕ) × (T (bit s.set c) × T (fits j c))
   pub none : (j : ℕ) → j < g → T (not (bit joins j)) → (c : ℕ) → T (bit s.set c) → T (not (fits j c))
 
-module _ (fits : ℕ → Set) (s : Freed) where
-  pub near_start : Near fits s 0 0
-  near_start = record {
-    below = λ j t. absurd (subst T (bit_none j) t);
-    some = λ j t. absurd (subst T (bit_none j) t);
-    none = λ j l. absurd (omega arith);
-  }
-
-  module _ (g joins : ℕ) (h : Near fits s g joins) where
-    pub near_take : (next c : ℕ) → T (bit s.set c) → T (fits g c) → ((j : ℕ) → bit next j ≡ with (bit joins) g j) → Near fits s (g + 1) next
-    near_take next c there fit is = record {
-      below = λ j t. elim (with_cases (bit joins) g j (subst T (is j) t)) [ inl old ↦ (let l = h.below j old in omega arith) | inr e ↦ omega arith ];
-      some = λ j t. elim (with_cases (bit joins) g j (subst T (is j) t)) [ inl old ↦ h.some j old | inr e ↦ (c, (there, subst⁻¹ (λ (x : ℕ). T (fits x c)) e fit)) ];
-      none = λ j l out. elim (ℕ_discrete j g) [
-        | yes e ↦ absurd (T_not (bit next j) out (subst⁻¹ T (is j) (subst⁻¹ (λ (x : ℕ). T (with (bit joins) g x)) e (with_new (bit joins) g))))
-        | no ne ↦ h.none j (omega arith) (not_T (bit joins j) (λ t. T_not (bit next j) out (subst⁻¹ T (is j) (old_in (bit joins) g j t))))
-      ];
-    }
-
-    pub near_skip : ((c : ℕ) → T (bit s.set c) → T (not (fits g c))) → Near fits s (g + 1) joins
-    near_skip never = record {
-      below = λ j t. let l = h.below j t in omega arith;
-      some = h.some;
-      none = λ j l out. elim (ℕ_discrete j g) [ yes e ↦ subst⁻¹ (λ (x : ℕ). (c : ℕ) → T (bit s.set c) → T (not (fits x c))) e never | no ne ↦ h.none j (omega arith) out ];
-    }
+-- as a test picks them
+pub near_chosen : (fits : ℕ → Set) (s : Freed) (m joins : ℕ) (answers : ℕ → Bool → Type 0) → Chosen m answers joins
+    → ((g : ℕ) (b : Bool) → g < m → answers g b → Meets b (fits g) (bit s.set)) → Near fits s m joins
+near_chosen fits s m joins answers h meets = record {
+  below = below;
+  some = λ j t. let l = below j t in (meets j (bit joins j) l (h.at j l)).some t;
+  none = λ j l out. (meets j (bit joins j) l (h.at j l)).none out;
+}
+  where
+    below : (j : ℕ) → T (bit joins j) → j < m
+    below j t = elim (dec_lt j m) [ yes l ↦ l | no d ↦ absurd (T_not (bit joins j) (h.rest j (omega arith)) t) ]
 
 module _ (fits : ℕ → Set) (m : ℕ) (small : m ≤ 64) (A : Set) (held : Matching) (s : Freed) (h : Greatest fits m A held) (leads : Leads fits held s) (closed : Closed fits held s) where
   -- an instrument that fits a mount that can be freed may join, and no other

@@ -1,22 +1,27 @@
 -- One pass over the mounts outside the set.
-use Prim.Native.Nat.{ℕ, ◌+◌, ◌-◌, ◌≤◌, ◌<◌}
+use Prim.Native.Nat.{ℕ, ◌+◌, ◌-◌, ◌^◌, ◌≤◌, ◌<◌}
 use mathlib.Core.Path.{◌≡◌, refl, ap, sym, ◌∙◌, subst, subst⁻¹, fun_ext}
-use mathlib.Core.Bool.{true, false, not}
+use mathlib.Core.Bool.{not}
 use mathlib.Core.Logic.{inl, inr, ◌≢◌}
 use mathlib.Core.List.{List}
 use native.Mathlib.Omega.{arith}
 use native.Mathlib.Decide.{dec_lt, ℕ_discrete}
 use lib.Dec.{T, eqb, eqb_refl, ltb→lt, lt→ltb, T_not, not_T}
 use lib.ListN.{length, get_or, replicate, length-set, length-replicate}
+use lib.Count.{count_trailing_zeros}
 use lib.Seq.{get_or-set_same, get_or-set_other}
+use borrow.Author.Tests.{eq-eqb, ne_eqb}
+use Rattle.std.specs.Int.{w64}
+use Rattle.std.proofs.lemmas.Nat.Bits.{bit_at-trailing_zeros}
 use Rattle.matroid.specs.Taut.{both, and_left, and_right}
 use Rattle.matroid.specs.Set.{Set, ◌∩◌, ◌∖◌, under, with, without, size}
 use Rattle.matroid.specs.SetLaws.{ne→eqb, differ, with_cases, size_with}
 use Rattle.sets.specs.Bits.{bit}
 use Rattle.sets.specs.Lowest.{Lowest}
+use Rattle.sets.proofs.Trailing.{trailing_lowest}
 use Rattle.mounts.specs.declared.matching.Matching.{Matching}
 use Rattle.mounts.specs.declared.matching.Freed.{Freed}
-use Rattle.mounts.specs.Matching.{Matched, Leads, Found, Swept}
+use Rattle.mounts.specs.Matching.{Meets, Matched, Leads, Found}
 use Rattle.mounts.proofs.Placing.{old_in}
 use Rattle.mounts.proofs.Wording.{zero_at}
 use Rattle.mounts.proofs.Reaching.{blocked}
@@ -40,10 +45,6 @@ after_lt e l n = omega arith
 pub nearer : {a b w : ℕ} → a < b → b ≤ w → w - b < w - a
 nearer l m = omega arith
 
--- true is not false
-clash : true ≡ false → ⊥
-clash e = subst T e tt
-
 -- the least member of what two words share is in both
 pub near_there : (w a b d : ℕ) → Lowest w d → d < 64 → ((j : ℕ) → bit w j ≡ (bit a ∩ bit b) j) → T (bit a d) × T (bit b d)
 near_there w a b d low some is = let t = subst T (is d) (low.member some) in (and_left (bit a d) _ t, and_right (bit a d) _ t)
@@ -53,6 +54,19 @@ pub near_none : (w a b d : ℕ) → Lowest w d → 64 ≤ d → ((j : ℕ) → b
 near_none w a b d low full is small j t =
     let l = small j t in
     not_T (bit a j) (λ u. T_not (bit w j) (low.least j (omega arith)) (subst⁻¹ T (is j) (both (bit a j) _ u t)))
+
+-- so the word of what two others share tells whether there is such a member
+pub meets_by : (w a b : ℕ) → w < 2 ^ 64 → ((j : ℕ) → bit w j ≡ (bit a ∩ bit b) j) → Meets (not (eqb w 0)) (bit a) (bit b)
+meets_by w a b fits is = elim (ℕ_discrete w 0) [
+  | yes e ↦ rw (eq-eqb w 0 e) (record {
+    some = λ t. absurd t;
+    none = λ _ c t. not_T (bit a c) (λ u. subst T (ap (λ (x : ℕ). bit x c) e ∙ bit_none c) (subst⁻¹ T (is c) (both (bit a c) _ u t)));
+  })
+  | no ne ↦
+      let (l, _, _) = bit_at-trailing_zeros w64 w (omega arith) fits in
+      let (u, t) = near_there w a b (count_trailing_zeros 64 w) (trailing_lowest w) l is in
+      rw (ne_eqb w 0 ne) (record { some = λ _. (count_trailing_zeros 64 w, (t, u)); none = λ t. absurd t })
+]
 
 -- the free mounts can be freed
 pub leads_free : (fits : ℕ → Set) (held : Matching) (s : Freed) → ((c : ℕ) → T (bit held.free c) → c < 32) → s.set ≡ held.free → s.next ≡ replicate 32 0 → s.depth ≡ replicate 32 0 → Leads fits held s
@@ -121,27 +135,24 @@ pub record Sweeping (fits : ℕ → Set) (held : Matching) (before : ℕ) (s : F
   pub leads : Leads fits held s
   pub ahead : (c : ℕ) → T (bit left c) → (c < 32) × T (not (bit s.set c))
   pub no_less : size 64 (bit before) ≤ size 64 (bit s.set)
-  pub more : s.grew ≡ true → size 64 (bit before) < size 64 (bit s.set)
-  pub closed : s.grew ≡ false → (c d : ℕ) → c < 32 → T (not (bit s.set c)) → T (not (bit left c)) → T (bit s.set d) → T (not (fits (get_or held.on c 0) d))
+  pub more : s.set ≢ before → size 64 (bit before) < size 64 (bit s.set)
+  pub closed : s.set ≡ before → (c d : ℕ) → c < 32 → T (not (bit s.set c)) → T (not (bit left c)) → T (bit s.set d) → T (not (fits (get_or held.on c 0) d))
 
 module _ (fits : ℕ → Set) (held : Matching) (before : ℕ) where
   -- nothing has been looked at
-  pub sweeping_none : (s : Freed) (left all : ℕ) → Leads fits held s → s.grew ≡ false → s.set ≡ before → ((j : ℕ) → bit all j ≡ under 32 j) → ((j : ℕ) → bit left j ≡ (bit all ∖ bit s.set) j) → Sweeping fits held before s left
-  sweeping_none s left all leads still same is_all is-left = record {
+  pub sweeping_none : (s : Freed) (left all : ℕ) → Leads fits held s → s.set ≡ before → ((j : ℕ) → bit all j ≡ under 32 j) → ((j : ℕ) → bit left j ≡ (bit all ∖ bit s.set) j) → Sweeping fits held before s left
+  sweeping_none s left all leads same is_all is-left = record {
     leads = leads;
     ahead = λ c t. let u = subst T (is-left c) t in (ltb→lt c 32 (subst T (is_all c) (and_left (bit all c) _ u)), and_right (bit all c) _ u);
     no_less = le_of_eq (ap (λ (w : ℕ). size 64 (bit w)) (sym same));
-    more = λ grew. absurd (clash (sym grew ∙ still));
+    more = λ other. absurd (other same);
     closed = λ _ c d l out seen. absurd (T_not (bit left c) seen (subst⁻¹ T (is-left c) (both (bit all c) _ (subst⁻¹ T (is_all c) (lt→ltb c 32 l)) out)));
   }
 
   module _ (s : Freed) (left c : ℕ) (h : Sweeping fits held before s left) (low : Lowest left c) where
-    pub sweeping_done : 64 ≤ c → Swept fits held before s
-    sweeping_done full = record {
-      leads = h.leads;
-      more = h.more;
-      closed = λ still d e l out t. h.closed still d e l out (low.least d (omega arith)) t;
-    }
+    -- where nothing was found, no other mount can be freed
+    pub sweeping_done : 64 ≤ c → s.set ≡ before → (d e : ℕ) → d < 32 → T (not (bit before d)) → T (bit before e) → T (not (fits (get_or held.on d 0) e))
+    sweeping_done full still d e l out t = h.closed still d e l (subst⁻¹ (λ (w : ℕ). T (not (bit w d))) still out) (low.least d (omega arith)) (subst⁻¹ (λ (w : ℕ). T (bit w e)) still t)
 
     module _ (some : c < 64) (next : ℕ) (is-next : (j : ℕ) → bit next j ≡ without (bit left) c j) where
       -- the instrument on c fits no mount of the set
@@ -175,7 +186,7 @@ module _ (fits : ℕ → Set) (held : Matching) (before : ℕ) where
                 );
             no_less = after_le refl h.no_less one_more;
             more = λ _. after_lt refl h.no_less one_more;
-            closed = λ still. absurd (clash (sym f.grows ∙ still));
+            closed = λ still. let e = ap (λ (w : ℕ). size 64 (bit w)) still in let less = h.no_less in absurd (omega arith);
           }
 
 -- the instrument on the least mount that is left
@@ -187,6 +198,6 @@ user_small fits held before {s} {left} {c} m h low some =
 -- where no mount is free, no other instrument can be mounted beside the others
 pub none_free : (fits : ℕ → Set) (held : Matching) → Matched fits held → held.free ≡ 0 → (g : ℕ) → g < 64 → T (not (bit held.taken g)) → Mounted fits 64 (with (bit held.taken) g) → ⊥
 none_free fits held h e g small out =
-    let s : Freed = record { set = held.free; grew = false; next = replicate 32 0; depth = replicate 32 0 } in
+    let s : Freed = record { set = held.free; next = replicate 32 0; depth = replicate 32 0 } in
     let empty : (c : ℕ) → T (bit held.free c) → ⊥ = λ c t. subst T (ap (λ (w : ℕ). bit w c) e ∙ bit_none c) t in
     blocked fits held s h (leads_free fits held s h.low refl refl refl) (λ c d l _ t. absurd (empty d t)) g small out (λ c t. absurd (empty c t))

@@ -15,7 +15,7 @@ use Rattle.matroid.specs.Set.{without}
 use Rattle.matroid.specs.SetLaws.{ne→eqb, without_ne}
 use Rattle.sets.specs.Bits.{bit}
 use Rattle.sets.specs.Lowest.{Lowest}
-use Rattle.sets.proofs.Lists.{get_d_any}
+use Rattle.std.proofs.lemmas.List.{get_or_default}
 use Rattle.sets.proofs.Below.{bit_none}
 use Rattle.mounts.specs.Mounts.{word_of, fits_of}
 use Rattle.mounts.specs.Matching.{Worded}
@@ -61,7 +61,7 @@ module _ (named first second third fourth : List ℕ) (of : ℕ) where
       }
         where
           unnamed : Fits words g
-          unnamed k = rw (h.rest g (low.member some), eq-eqb (get_or named g 255) 255 (sym (get_d_any named g 0 255 (omega arith)) ∙ e)) (bit_none k)
+          unnamed k = rw (h.rest g (low.member some), eq-eqb (get_or named g 255) 255 (sym (get_or_default named g 0 255 (omega arith)) ∙ e)) (bit_none k)
 
       pub wording_take : get_or named g 0 ≢ 255 → Wording (set words g (word_of (get_or first g 0) (get_or second g 0) (get_or third g 0) (get_or fourth g 0))) next
       wording_take ne = record {
@@ -81,5 +81,5 @@ module _ (named first second third fourth : List ℕ) (of : ℕ) where
               let wide = h.wide in
               rw (
                 get_or-set_same words g (word_of (get_or first g 0) (get_or second g 0) (get_or third g 0) (get_or fourth g 0)) 0 (omega arith),
-                ne_eqb (get_or named g 255) 255 (λ e. ne (get_d_any named g 0 255 (omega arith) ∙ e)),
+                ne_eqb (get_or named g 255) 255 (λ e. ne (get_or_default named g 0 255 (omega arith) ∙ e)),
               ) refl

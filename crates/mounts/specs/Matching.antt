@@ -1,14 +1,26 @@
 -- A matching as tables: the instrument on each mount, and the mounts that are free. The words of the functions' contracts.
-use Rattle.std.specs.Prelude.{ℕ, ◌+◌, ◌≤◌, ◌<◌, ◌≡◌, true, false, not, ◌⊎◌, List, T, length, get_or, set}
+use Rattle.std.specs.Prelude.{ℕ, ◌+◌, ◌≤◌, ◌<◌, ◌≡◌, Bool, not, ◌⊎◌, List, T, length, get_or, set, Option, MatchOption}
 use Rattle.matroid.specs.Set.{Set, with, size}
 use Rattle.sets.specs.Bits.{bit}
+use Rattle.matroid.specs.Matroid.{Matroid}
+use Rattle.mounts.specs.declared.Tables.{Tables}
 use Rattle.mounts.specs.declared.matching.Matching.{Matching}
 use Rattle.mounts.specs.declared.matching.Freed.{Freed}
 use Rattle.mounts.specs.Mounts.{Mounted, fits_of}
+use Rattle.mounts.specs.Transversal.{mounts_of}
 
 -- the mounts that each instrument fits, by a table of words
 abbrev pub fits_in : List ℕ → ℕ → Set
 fits_in fits g = bit (get_or fits g 0)
+
+-- the matroid of a team's tables
+abbrev pub mounts_in : (m : ℕ) → Tables → Matroid m
+mounts_in m tables = mounts_of m tables.named tables.first tables.second tables.third tables.fourth
+
+-- b says whether two sets have a member in common
+pub record Meets (b : Bool) (A B : Set) : Type 0 where
+  pub some : T b → (c : ℕ) × (T (B c) × T (A c))
+  pub none : T (not b) → (c : ℕ) → T (B c) → T (not (A c))
 
 -- the words of the members of a set are those of a team's tables
 pub record Worded (named first second third fourth : List ℕ) (of : ℕ) (words : List ℕ) : Type 0 where
@@ -42,15 +54,12 @@ Closed fits held s = (c d : ℕ) → c < 32 → T (not (bit s.set c)) → T (bit
 -- r has the mount c besides, found last: its instrument can move to d
 pub record Found (s r : Freed) (c d : ℕ) : Type 0 where
   pub has : (j : ℕ) → bit r.set j ≡ with (bit s.set) c j
-  pub grows : r.grew ≡ true
   pub onward : r.next ≡ set s.next c d
   pub deeper : r.depth ≡ set s.depth c (size 64 (bit s.set) + 1)
 
 -- a pass has made the set larger, or there is no other mount that can be freed
-pub record Swept (fits : ℕ → Set) (held : Matching) (before : ℕ) (r : Freed) : Type 0 where
-  pub leads : Leads fits held r
-  pub more : r.grew ≡ true → size 64 (bit before) < size 64 (bit r.set)
-  pub closed : r.grew ≡ false → Closed fits held r
+abbrev pub Swept : (fits : ℕ → Set) (held : Matching) (s : Freed) (r : Option Freed) → Type 0
+Swept fits held s r = MatchOption r (Closed fits held s) (λ f. Leads fits held f × (size 64 (bit s.set) < size 64 (bit f.set)))
 
 -- g has joined the matching, or the matching is as it was and g cannot be mounted beside the others
 pub record Joined (fits : ℕ → Set) (held : Matching) (g : ℕ) (r : Matching) : Type 0 where

@@ -1,8 +1,9 @@
 -- One command followed: the ways out of `follow`.
 use Prim.Native.Nat.{ℕ, ◌+◌, ◌-◌, ◌*◌, ◌≤◌}
-use mathlib.Core.Path.{◌≡◌, refl, sym, ap, ◌∙◌, subst⁻¹}
-use mathlib.Core.Bool.{Bool, true, false, not, cond, true≢false}
-use mathlib.Core.Logic.{inl, inr, ◌≢◌}
+use Rattle.std.specs.Prelude.{Option, Some, None, Result, Ok, Err}
+use mathlib.Core.Path.{◌≡◌, refl, sym, ap, ◌∙◌, subst, subst⁻¹}
+use mathlib.Core.Bool.{Bool, true, false, not, cond}
+use mathlib.Core.Logic.{◌≢◌}
 use mathlib.Core.List.{List, ◌++◌}
 use native.Mathlib.Omega.{arith}
 use lib.Dec.{eqb, leb, ltb}
@@ -12,6 +13,8 @@ use Rattle.team.specs.declared.Team.{Team}
 use Rattle.command.specs.declared.Command.{Command}
 use Rattle.command.specs.declared.Command.TheVariants.{Missing, Unknown, Short, Start, Caps, Loops, Mounts, Class, Put, Span, Fit, Shelf, Days, Glue, End}
 use Rattle.command.specs.declared.State.{State}
+use Rattle.command.specs.declared.refusal.Refusal.{Refusal}
+use Rattle.command.specs.Refusal.{refuse}
 use Rattle.judge.specs.Fault.{fault, is_end}
 use Rattle.carry.specs.Carry.{row_of, changed_team, changed_state}
 use Rattle.row.specs.Row.{row_team}
@@ -66,6 +69,17 @@ small_pool at s team (Days a b c d) l e = l
 small_pool at s team (Glue instrument) l e = l
 small_pool at s team End l e = l
 
+-- what following a command comes to, by a number for each of the three ways, and its state where there is one
+abbrev pub way_of : Result (Option State) Refusal → ℕ
+way_of (Err e) = 0
+way_of (Ok None) = 1
+way_of (Ok (Some s)) = 2
+
+abbrev pub state_of : State → Result (Option State) Refusal → State
+state_of s (Err e) = s
+state_of s (Ok None) = s
+state_of s (Ok (Some next)) = next
+
 module _ (rows : List ℕ) (at : ℕ) (s : State) (command : Command) (k : ℕ) (is-k : k ≡ row_of s.n command) (number : ℕ) (is : number ≡ fault at s (row_team (take (343 * k + 343 - 343 * k) (drop (343 * k) rows))) command) where
   abbrev row : Team
   row = row_at rows (row_of s.n command)
@@ -74,13 +88,13 @@ module _ (rows : List ℕ) (at : ℕ) (s : State) (command : Command) (k : ℕ) 
   number_is : number ≡ fault at s row command
   number_is = is ∙ ap (λ (team : Team). fault at s team command) (row_lent rows k ∙ ap (row_at rows) is-k)
 
-  pub follow_refused : number ≢ 0 → Followed rows at s command (record { s = s; stopped = true; fault = number; at = at }) rows
+  pub follow_refused : number ≢ 0 → Followed rows at s command (refuse number at) rows
   follow_refused d =
       let e = number_is in
       let d' : fault at s row command ≢ 0 = λ z. d (e ∙ z) in
       record {
-        is = rw (ne_eqb (fault at s row command) 0 d') (ap (λ (k : ℕ). record { s = s; stopped = true; fault = k; at = at }) e);
-        row = λ f. absurd (true≢false f);
+        is = rw (ne_eqb (fault at s row command) 0 d') (ap (λ (k : ℕ). refuse k at) e);
+        row = λ next e. let w : ◌≡◌ {A = ℕ} 0 2 = ap way_of e in absurd (omega arith);
         other = λ k l o. refl;
       }
 
@@ -91,10 +105,10 @@ module _ (rows : List ℕ) (at : ℕ) (s : State) (command : Command) (k : ℕ) 
     pub follow_few : s.n ≤ 12 → (next : State) → next ≡ changed_state s command → next.n ≤ 12
     follow_few l next same = subst⁻¹ (λ (x : State). x.n ≤ 12) same (few_teams at s row command l none)
 
-    pub follow_end : is_end command ≡ true → Followed rows at s command (record { s = s; stopped = true; fault = 0; at = at }) rows
+    pub follow_end : is_end command ≡ true → Followed rows at s command (Ok None) rows
     follow_end e = record {
       is = rw (eq-eqb (fault at s row command) 0 none, e) refl;
-      row = λ f. absurd (true≢false f);
+      row = λ next e. let w : ◌≡◌ {A = ℕ} 1 2 = ap way_of e in absurd (omega arith);
       other = λ k l o. refl;
     }
 
@@ -105,12 +119,13 @@ module _ (rows : List ℕ) (at : ℕ) (s : State) (command : Command) (k : ℕ) 
 
       pub follow_on : is_end command ≡ false → length rows ≡ 4802 → s.n ≤ 12 → (ys : List ℕ)
           → length ys ≡ length (take (343 * k' + 343 - 343 * k') (drop (343 * k') rows)) → row_team ys ≡ changed_team next.n (row_team (take (343 * k' + 343 - 343 * k') (drop (343 * k') rows))) command
-          → Followed rows at s command (record { s = next; stopped = false; fault = 0; at = at }) (take (343 * k') rows ++ (ys ++ drop (343 * k' + 343 - 343 * k') (drop (343 * k') rows)))
+          → Followed rows at s command (Ok (Some next)) (take (343 * k') rows ++ (ys ++ drop (343 * k' + 343 - 343 * k') (drop (343 * k') rows)))
       follow_on e long few ys wide changed =
           let within = follow_row few in
+          let rows' = take (343 * k') rows ++ (ys ++ drop (343 * k' + 343 - 343 * k') (drop (343 * k') rows)) in
           let full = wide ∙ ap length (lent rows k') ∙ lent_length rows k' long within in
           record {
-            is = rw (eq-eqb (fault at s row command) 0 none, e) (ap (λ (x : State). record { s = x; stopped = false; fault = 0; at = at }) same);
-            row = λ f. rw (sym is-k') (put_row rows k' long within ys full ∙ changed ∙ ap (λ (team : Team). changed_team next.n team command) (row_lent rows k'));
-            other = λ k l o. elim o [ inl t ↦ absurd (true≢false (sym t)) | inr d ↦ put_other rows k' long within ys full k l (λ e. d (e ∙ is-k')) ];
+            is = rw (eq-eqb (fault at s row command) 0 none, e) (ap (λ (x : State). Ok (Some x)) same);
+            row = λ later e. subst (λ (x : State). row_at rows' (row_of x.n command) ≡ changed_team x.n (row_at rows (row_of x.n command)) command) (ap (state_of next) e) (rw (sym is-k') (put_row rows k' long within ys full ∙ changed ∙ ap (λ (team : Team). changed_team next.n team command) (row_lent rows k')));
+            other = λ k l o. put_other rows k' long within ys full k l (λ e. o next refl (e ∙ is-k'));
           }

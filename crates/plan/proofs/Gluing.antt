@@ -2,12 +2,15 @@
 use Prim.Native.Nat.{ℕ, zero, suc, ◌+◌, ◌^◌, ◌≤◌, ◌<◌}
 use mathlib.Core.Path.{◌≡◌, refl, sym, ap, ◌∙◌, subst, subst⁻¹}
 use mathlib.Core.Bool.{Bool, true, false, ◌&&◌, not, true≢false}
+use Rattle.std.specs.Cmp.Lexicographic.{same_text, other_text}
 use Rattle.matroid.specs.Decide.{is_yes}
 use mathlib.Core.List.{List}
 use native.Mathlib.Omega.{arith}
 use native.Mathlib.Decide.{ℕ_discrete, dec_lt}
 use lib.Dec.{T, eqb, ltb}
-use lib.ListN.{length, get_or}
+use lib.ListN.{length, get_or, replicate, get_or-replicate}
+use lib.Pointwise.{pointwise}
+use lib.Seq.{ext_get_or}
 use borrow.Author.Tests.{eq-eqb, ne_eqb, eqb-true, lt-ltb, le-ltb, ltb-false}
 use Rattle.matroid.specs.Taut.{T→true, and_right}
 use Rattle.matroid.specs.Set.{Set, none, ◌∖◌, under, one, size, Within}
@@ -15,7 +18,7 @@ use Rattle.matroid.specs.SetLaws.{size_none, size_agree}
 use Rattle.matroid.specs.Matroid.{Matroid, worth}
 use Rattle.matroid.proofs.Rank.{worth_indep, indep_worth}
 use Rattle.sets.specs.Bits.{bit, word}
-use Rattle.sets.proofs.Lists.{get_d_any}
+use Rattle.std.proofs.lemmas.List.{get_or_default}
 use Rattle.sets.proofs.Below.{bit_none}
 use Rattle.sets.proofs.Gathering.{gathered_all, bit_word}
 use Rattle.plan.specs.declared.Reading.{Reading}
@@ -25,12 +28,8 @@ use Rattle.plan.specs.Teams.{entries, glued_to, team_before, fallen, all_stand}
 -- ---- words
 
 -- an entry of the table, as the code has it
-module _ (glue : List ℕ) (i d number : ℕ) (l : i < length glue) where
-  pub entry_is : get_or glue i d ≡ number → entries glue number i ≡ true
-  entry_is e = eq-eqb (get_or glue i 255) number (get_d_any glue i 255 d l ∙ e)
-
-  pub entry_not : (get_or glue i d ≡ number → ⊥) → entries glue number i ≡ false
-  entry_not n = ne_eqb (get_or glue i 255) number (λ e. n (get_d_any glue i d 255 l ∙ e))
+pub entry_here : (glue : List ℕ) (number i d : ℕ) → i < length glue → eqb (get_or glue i d) number ≡ entries glue number i
+entry_here glue number i d l = ap (λ (x : ℕ). eqb x number) (get_or_default glue i d 255 l)
 
 -- the word of what is in one set and not in another
 pub word_minus : (m : ℕ) (A B : Set) (w : ℕ) → m ≤ 64 → w < 2 ^ 64 → ((j : ℕ) → bit w j ≡ (bit (word m A) ∖ bit (word m B)) j) → w ≡ word m (A ∖ B)
@@ -60,29 +59,37 @@ one_falls (suc n) A t l e = go (λ (b : t < n). one_falls n A t b e) (ℕ_discre
     go rest (yes same) = let last : one (A n) ≡ 1 = ap one (ap A (sym same) ∙ e) in omega arith
     go rest (no d) = let below = rest (omega arith) in omega arith
 
--- the glued instruments of a table, counted one by one
-pub count_next : (A : Set) (i : ℕ) → size (i + 1) A ≡ size i A + one (A i)
-count_next A i = let e : i + 1 ≡ suc i = omega arith in ap (λ (k : ℕ). size k A) e
+-- no instrument of a table is glued where none is counted
+none_glued : (glue : List ℕ) (j : ℕ) → ltb 0 (size 64 (named glue)) ≡ false → j < 64 → named glue j ≡ false
+none_glued glue j e b = free (named glue j) refl
+  where
+    free : (x : Bool) → named glue j ≡ x → x ≡ false
+    free false t = refl
+    free true t = let some = one_falls 64 (named glue) j b t in let top = ltb-false 0 (size 64 (named glue)) e in absurd (omega arith)
 
-pub glued_here : (glue : List ℕ) (i d : ℕ) → i < length glue → (get_or glue i d ≡ 255 → ⊥) → one (named glue i) ≡ 1
-glued_here glue i d l n = ap (λ (b : Bool). one (not b)) (entry_not glue i d 255 l n)
-
-pub free_here : (glue : List ℕ) (i d : ℕ) → i < length glue → get_or glue i d ≡ 255 → one (named glue i) ≡ 0
-free_here glue i d l e = ap (λ (b : Bool). one (not b)) (entry_is glue i d 255 l e)
+-- whether one is, by whether the table is that of none
+pub some_glued : (glue : List ℕ) → length glue ≡ 64 → (same : Bool) → same ≡ pointwise eqb glue (replicate 64 255) → not same ≡ ltb 0 (size 64 (named glue))
+some_glued glue long true is = let e = same_text glue (replicate 64 255) is in rw e refl
+some_glued glue long false is = go (ltb 0 (size 64 (named glue))) refl
+  where
+    go : (b : Bool) → ltb 0 (size 64 (named glue)) ≡ b → true ≡ b
+    go true e = refl
+    go false e =
+        absurd (other_text glue (replicate 64 255) is (ext_get_or 255 glue (replicate 64 255) long (λ j b. free (get_or glue j 255) (none_glued glue j e (omega arith)) ∙ sym (get_or-replicate 64 j 255 255 (omega arith)))))
+      where
+        free : (x : ℕ) → not (eqb x 255) ≡ false → x ≡ 255
+        free x n = at (eqb x 255) refl n
+          where
+            at : (b : Bool) → eqb x 255 ≡ b → not b ≡ false → x ≡ 255
+            at true t n = eqb-true x 255 t
+            at false t n = absurd (true≢false n)
 
 -- where none is counted, there is none
 pub word_free : (glue : List ℕ) (m : ℕ) → m ≤ 64 → ltb 0 (size 64 (named glue)) ≡ false → 0 ≡ word m (named glue)
 word_free glue m l e = gathered_all (named glue) m 0 l (omega arith) (record { at = λ j. bit_none j ∙ go j (dec_lt j m) })
   where
-    none : (j : ℕ) → j < 64 → named glue j ≡ false
-    none j b = free (named glue j) refl
-      where
-        free : (x : Bool) → named glue j ≡ x → x ≡ false
-        free false t = refl
-        free true t = let some = one_falls 64 (named glue) j b t in let top = ltb-false 0 (size 64 (named glue)) e in absurd (omega arith)
-
     go : (j : ℕ) → Dec (j < m) → false ≡ (ltb j m && named glue j)
-    go j (yes b) = rw (lt-ltb j m b) (sym (none j (omega arith)))
+    go j (yes b) = rw (lt-ltb j m b) (sym (none_glued glue j e (omega arith)))
     go j (no d) = rw (le-ltb j m (omega arith)) refl
 
 -- where no instrument is glued to anyone, none is glued to a team

@@ -1,7 +1,6 @@
 pub mod Tables
 pub mod Rows
 pub mod Following
-pub mod Again
 pub mod Run
 pub mod Kept
 pub mod Steps
@@ -15,3 +14,4 @@ pub mod Answers
 pub mod Numbers
 pub mod Longest
 pub mod Table
+pub mod Filling

@@ -1,18 +1,16 @@
--- The loop of `present_of`, and what it is to be away.
+-- The teams that are present, and what it is to be away.
 use Prim.Native.Nat.{ℕ, ◌≤◌, ◌<◌}
-use mathlib.Core.Path.{◌≡◌, ap, ◌∙◌, subst, fun_ext}
-use mathlib.Core.Bool.{true, false, not}
+use mathlib.Core.Path.{◌≡◌, ap, ◌∙◌, subst}
+use mathlib.Core.Bool.{not}
 use mathlib.Core.List.{List}
 use native.Mathlib.Omega.{arith}
 use lib.Dec.{T, ltb}
 use lib.ListN.{length, get_or}
-use borrow.Author.Tests.{lt-ltb, le-ltb, ltb-false}
+use borrow.Author.Tests.{lt-ltb, ltb-false}
 use Rattle.matroid.specs.Taut.{T→false}
 use Rattle.matroid.specs.Set.{Set}
 use Rattle.matroid.specs.Matroid.{Matroid, worth}
-use Rattle.sets.specs.Bits.{bit}
-use Rattle.sets.proofs.Gathering.{Gathered}
-use Rattle.sets.proofs.Lists.{get_d_any}
+use Rattle.std.proofs.lemmas.List.{get_or_default}
 use Rattle.team.specs.declared.Team.{Team}
 use Rattle.team.specs.Team.{blank_team}
 use Rattle.kinds.specs.declared.Valuation.{Valuation}
@@ -26,20 +24,9 @@ use Rattle.plan.proofs.Valuing.{matroids_of}
 abbrev pub manned : List Team → Set
 manned teams t = ltb 0 (get_or teams t blank_team).channels
 
--- whether the code finds team k to have channels
-module _ (teams : List Team) (k : ℕ) (team d : Team) (l : k < length teams) (is : team ≡ get_or teams k d) where
-  channels_is : team.channels ≡ (get_or teams k blank_team).channels
-  channels_is = ap (λ (x : Team). x.channels) (is ∙ get_d_any teams k d blank_team l)
-
-  pub manned_yes : 0 < team.channels → manned teams k ≡ true
-  manned_yes more = let e = channels_is in lt-ltb 0 (get_or teams k blank_team).channels (omega arith)
-
-  pub manned_no : team.channels ≤ 0 → manned teams k ≡ false
-  manned_no none = let e = channels_is in le-ltb 0 (get_or teams k blank_team).channels (omega arith)
-
--- after the last team the word is the set of those present
-pub here_all : (r : Reading) (w : ℕ) → Gathered (manned r.teams) r.n w → bit w ≡ present r
-here_all r w h = fun_ext h.at
+-- of team k, as the code reads it
+pub manned_here : (teams : List Team) (k : ℕ) (d : Team) → k < length teams → ltb 0 (get_or teams k d).channels ≡ manned teams k
+manned_here teams k d l = ap (λ (x : Team). ltb 0 x.channels) (get_or_default teams k d blank_team l)
 
 -- to a team that is away every set is worth 0
 away_worth : (r : Reading) (t : ℕ) → t < r.n → T (not (present r t)) → (S : Set) → worth (team_matroid r t) S ≡ 0

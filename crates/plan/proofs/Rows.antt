@@ -5,11 +5,9 @@ use mathlib.Core.List.{List, ◌++◌}
 use mathlib.Core.Logic.{◌≢◌}
 use native.Mathlib.Omega.{arith}
 use native.Mathlib.Decide.{dec_lt}
-use lib.ListN.{length, get_or, take, drop, length-append, length-take, length-drop, get_or-append}
-use lib.Seq.{length-take-le, take_at, drop_at, get_or-take, get_or-drop, get_or-append-add}
+use lib.ListN.{length, get_or, take, drop}
 use Rattle.row.specs.Row.{part, row_team}
-use Rattle.row.proofs.Parts.{part_at_lem, part_length, part_is}
-use Rattle.row.specs.Days.{days_of}
+use Rattle.row.proofs.Parts.{part_at_lem, part_length, part_is, put, put_length, put_part, put_before, put_after}
 use Rattle.plan.specs.Read.{shelf_days}
 use Rattle.plan.specs.Progress.{row_at}
 
@@ -26,15 +24,20 @@ pub row_lent : (rows : List ℕ) (k : ℕ) → row_team (take (343 * k + 343 - 3
 unfolding row_at
 row_lent rows k = ap row_team (lent rows k)
 
+-- the same of a row in hand
+pub given_length : (row rows : List ℕ) (k : ℕ) → row ≡ part rows (343 * k) 343 → length rows ≡ 4802 → k ≤ 13 → length row ≡ 343
+given_length row rows k is long few = ap length is ∙ lent_length rows k long few
+
+pub row_given : (row rows : List ℕ) (k : ℕ) → row ≡ part rows (343 * k) 343 → row_team row ≡ row_at rows k
+unfolding row_at
+row_given row rows k is = ap row_team is
+
 -- the pool's row, which is lent first of all
 pub pool_lent : (rows : List ℕ) → row_team (take (343 - 0) (drop 0 rows)) ≡ row_at rows 0
 unfolding row_at part
 pool_lent rows = refl
 
--- the days of a row that is lent, and the shelf days by the pool's
-pub days_lent : (rows : List ℕ) (k : ℕ) → days_of (row_team (take (343 * k + 343 - 343 * k) (drop (343 * k) rows))) ≡ days_of (row_at rows k)
-days_lent rows k = ap days_of (row_lent rows k)
-
+-- the shelf days by the pool's
 pub shelf_lent : (m : ℕ) (rows : List ℕ) → shelf_days m (row_team (take (343 - 0) (drop 0 rows))) ≡ shelf_days m (row_at rows 0)
 shelf_lent m rows = ap (shelf_days m) (pool_lent rows)
 
@@ -46,33 +49,6 @@ marks_lent rows long =
     let wide = part_length rows 4459 343 (omega arith) in
     sym (part_is rows 4477 64 (part row 18 64) (omega arith) (part_length row 18 64 (omega arith))
     (λ i b. let e : 4459 + (18 + i) ≡ 4477 + i = omega arith in part_at_lem row 18 64 i 0 b ∙ part_at_lem rows 4459 343 (18 + i) 0 (omega arith) ∙ ap (λ (k : ℕ). get_or rows k 0) e))
-
--- a part of a list that is put back, with as many entries as it had
-module _ (l : List ℕ) (at many : ℕ) (fits : at + many ≤ length l) (ys : List ℕ) (long : length ys ≡ many) where
-  abbrev put : List ℕ
-  put = take at l ++ (ys ++ drop many (drop at l))
-
-  front : length (take at l) ≡ at
-  front = length-take-le at l (omega arith)
-
-  put_length : length put ≡ length l
-  put_length = simp (length-append, length-take, length-drop) (omega arith)
-
-  -- the part, and what lies before and after it
-  put_part : part put at many ≡ ys
-  unfolding part
-  put_part = ap (take many) (drop_at (take at l) (ys ++ drop many (drop at l)) at front) ∙ take_at ys (drop many (drop at l)) many long
-
-  put_before : (i d : ℕ) → i < at → get_or put i d ≡ get_or l i d
-  put_before i d b = get_or-append (take at l) (ys ++ drop many (drop at l)) d i (omega (arith, front)) ∙ get_or-take at l i d b
-
-  put_after : (i d : ℕ) → at + many ≤ i → get_or put i d ≡ get_or l i d
-  put_after i d b =
-      let j = i - at - many in
-      let e : i ≡ length (take at l) + (length ys + j) = omega (arith, front) in
-      let e' : at + (many + j) ≡ i = omega arith in
-      ap (λ (k : ℕ). get_or put k d) e ∙ get_or-append-add (take at l) (ys ++ drop many (drop at l)) (length ys + j) d ∙ get_or-append-add ys (drop many (drop at l)) j d
-      ∙ get_or-drop many (drop at l) j d ∙ get_or-drop at l (many + j) d ∙ ap (λ (k : ℕ). get_or l k d) e'
 
 -- one row of the table is put back
 module _ (rows : List ℕ) (k : ℕ) (long : length rows ≡ 4802) (few : k ≤ 13) (ys : List ℕ) (same : length ys ≡ 343) where

@@ -1,7 +1,8 @@
 -- The loop of `read_commands`: what is still to be read decides the answer.
 use Prim.Native.Nat.{ℕ, zero, suc, ◌+◌, ◌-◌, ◌≤◌, ◌<◌}
+use Rattle.std.specs.Prelude.{Option, Some, None, Result, Ok, Err}
 use mathlib.Core.Path.{◌≡◌, refl, sym, ap, ◌∙◌, subst}
-use mathlib.Core.Bool.{Bool, true, false, ◌||◌, cond, true≢false, or-false}
+use mathlib.Core.Bool.{Bool, true, false, ◌||◌, cond, or-false}
 use mathlib.Core.Logic.{◌⊎◌, inl, inr, ◌≢◌, ⊎_elim}
 use mathlib.Core.List.{List}
 use native.Mathlib.Omega.{arith}
@@ -12,7 +13,9 @@ use lib.Seq.{get_or-set_same, get_or-set_other, ext_get_or}
 use borrow.Author.Tests.{lt-leb, le-leb, eq-eqb, ne_eqb, eqb-true, eqb-false}
 use Rattle.command.specs.declared.Command.{Command}
 use Rattle.command.specs.declared.Command.TheVariants.{Missing, Unknown, Short, Start, Caps, Loops, Mounts, Class, Put, Span, Fit, Shelf, Days, Glue, End}
-use Rattle.plan.specs.declared.step.Progress.{Progress}
+use Rattle.plan.specs.declared.step.Ending.{Ending}
+use Rattle.command.specs.declared.refusal.Refusal.{Refusal}
+use Rattle.command.specs.Refusal.{refuse}
 use Rattle.plan.specs.declared.Reading.{Reading}
 use Rattle.command.specs.declared.State.{State}
 use Rattle.team.specs.declared.Team.{Team}
@@ -28,7 +31,7 @@ use Rattle.plan.specs.Progress.{row_at, rows_in, Followed, Ended}
 use Rattle.judge.proofs.Standing.{whole}
 use Rattle.sets.proofs.Each.{each_length, each_at}
 use Rattle.plan.proofs.Steps.{row_of_lem, worked_on, number, next, step_refused, step_end, step_next, plan_start}
-use Rattle.plan.proofs.Following.{few_teams, small_pool}
+use Rattle.plan.proofs.Following.{few_teams, small_pool, way_of, state_of}
 
 -- The answer is what reading from here on comes to, and there is fuel for it.
 pub record Run (file : List ℕ) (at : ℕ) (s : State) (teams : List Team) : Type 0 where
@@ -206,7 +209,24 @@ none_read rows blank free = rw (blank, free) refl
 pub stands_start : (file rows : List ℕ) → get_or file 0 0 ≡ 1 → length rows ≡ 4802 → row_at rows 0 ≡ blank_team → row_at rows 13 ≡ blank_team → Stands file 0 start rows
 stands_start file rows e long blank free = record { run = subst (Run file 0 start) (sym (none_read rows blank free)) (run_start file e); long = long }
 
-module _ (file : List ℕ) (at : ℕ) (s : State) (rows : List ℕ) (here : Stands file at s rows) (p : Progress) (rows' : List ℕ) (done : Followed rows at s (command_at file at) p rows') where
+-- the refusal that following a command comes to, and the state at an END
+abbrev refusal_in : Refusal → Result (Option State) Refusal → Refusal
+refusal_in e (Err d) = d
+refusal_in e (Ok o) = e
+
+abbrev ending_state : State → Result Ending Refusal → State
+ending_state s (Err e) = s
+ending_state s (Ok end) = end.s
+
+-- a refusal is no END
+abbrev ended : Result Ending Refusal → ℕ
+ended (Err e) = 0
+ended (Ok end) = 1
+
+ended_not : (e : Refusal) (end : Ending) → ◌≡◌ {A = Result Ending Refusal} (Err e) (Ok end) → ⊥
+ended_not e end w = let z : ◌≡◌ {A = ℕ} 0 1 = ap ended w in omega arith
+
+module _ (file : List ℕ) (at : ℕ) (s : State) (rows : List ℕ) (here : Stands file at s rows) (p : Result (Option State) Refusal) (rows' : List ℕ) (done : Followed rows at s (command_at file at) p rows') where
   abbrev command : Command
   command = command_at file at
 
@@ -231,48 +251,59 @@ module _ (file : List ℕ) (at : ℕ) (s : State) (rows : List ℕ) (here : Stan
 
   -- what following a command comes to, by the rule that is broken and whether it is END
   data Way : Type 0 where
-    refuses : f ≢ 0 → p ≡ record { s = s; stopped = true; fault = f; at = at } → Way
-    ends : f ≡ 0 → is_end command ≡ true → p ≡ record { s = s; stopped = true; fault = 0; at = at } → Way
-    goes : f ≡ 0 → is_end command ≡ false → p ≡ record { s = changed_state s command; stopped = false; fault = 0; at = at } → Way
+    refuses : f ≢ 0 → p ≡ refuse f at → Way
+    ends : f ≡ 0 → is_end command ≡ true → p ≡ Ok None → Way
+    goes : f ≡ 0 → is_end command ≡ false → p ≡ Ok (Some (changed_state s command)) → Way
 
   way : Way
   way = go (eqb f 0) refl (is_end command) refl done.is
     where
       go : (b : Bool) → eqb f 0 ≡ b → (b' : Bool) → is_end command ≡ b'
-          → p ≡ cond b (cond b' (record { s = s; stopped = true; fault = 0; at = at }) (record { s = changed_state s command; stopped = false; fault = 0; at = at })) (record { s = s; stopped = true; fault = f; at = at }) → Way
+          → p ≡ cond b (cond b' (Ok None) (Ok (Some (changed_state s command)))) (refuse f at) → Way
       go true t true e is = ends (eqb-true f 0 t) e is
       go true t false e is = goes (eqb-true f 0 t) e is
       go false t b' e is = refuses (eqb-false f 0 t) is
 
-  -- where reading stops
-  pub stops_here : p.stopped ≡ true → Ended file p rows'
-  stops_here stop = go way
+  -- where reading stops: at a command that breaks a rule
+  pub stops_refused : (e : Refusal) → p ≡ Err e → Ended file (Err e) rows'
+  stops_refused e stop = go way
     where
-      go : Way → Ended file p rows'
-      go (refuses d is) = rw is (record {
-        few = few;
-        small = here.run.small;
-        same = rw (ne_eqb f 0 d) (ap (λ (k : ℕ). refused k at) found ∙ run_refused file at s read here.run (λ z. d (found ∙ z)));
-      })
-      go (ends z e is) = rw is (record {
-        few = few;
-        small = here.run.small;
-        same = ap (finished file at s) (rows_same rows rows' s.n (λ k l. done.other k l (inl stop))) ∙ run_end file at s read here.run (sym found ∙ z) e;
-      })
-      go (goes z e is) = absurd (true≢false (sym stop ∙ ap (λ (x : Progress). x.stopped) is))
+      go : Way → Ended file (Err e) rows'
+      go (refuses d is) = record {
+        few = λ end w. absurd (ended_not e end w);
+        small = λ end w. absurd (ended_not e end w);
+        same =
+            let same_e : e ≡ record { number = f; place = at } = ap (refusal_in e) (sym stop ∙ is) in
+            rw same_e (ap (λ (k : ℕ). refused k at) found ∙ run_refused file at s read here.run (λ z. d (found ∙ z)));
+      }
+      go (ends z t is) = let w : ◌≡◌ {A = ℕ} 0 1 = ap way_of (sym stop ∙ is) in absurd (omega arith)
+      go (goes z t is) = let w : ◌≡◌ {A = ℕ} 0 2 = ap way_of (sym stop ∙ is) in absurd (omega arith)
 
-  module _ (on : p.stopped ≡ false) where
+  -- and at an END in its place
+  pub stops_end : p ≡ Ok None → Ended file (Ok (record { at = at; s = s })) rows'
+  stops_end stop = go way
+    where
+      go : Way → Ended file (Ok (record { at = at; s = s })) rows'
+      go (refuses d is) = let w : ◌≡◌ {A = ℕ} 1 0 = ap way_of (sym stop ∙ is) in absurd (omega arith)
+      go (ends z t is) = record {
+        few = λ end w. subst (λ (x : State). x.n ≤ 12) (ap (ending_state s) w) few;
+        small = λ end w. subst (λ (x : State). x.m ≤ 64) (ap (ending_state s) w) here.run.small;
+        same = ap (finished file at s) (rows_same rows rows' s.n (λ k l. done.other k l (λ next e. let w : ◌≡◌ {A = ℕ} 1 2 = ap way_of (sym stop ∙ e) in absurd (omega arith)))) ∙ run_end file at s read here.run (sym found ∙ z) t;
+      }
+      go (goes z t is) = let w : ◌≡◌ {A = ℕ} 1 2 = ap way_of (sym stop ∙ is) in absurd (omega arith)
+
+  module _ (next : State) (on : p ≡ Ok (Some next)) where
     -- where it goes on
-    goes_on : (f ≡ 0) × (is_end command ≡ false) × (p.s ≡ changed_state s command)
+    goes_on : (f ≡ 0) × (is_end command ≡ false) × (next ≡ changed_state s command)
     goes_on = go way
       where
-        go : Way → (f ≡ 0) × (is_end command ≡ false) × (p.s ≡ changed_state s command)
-        go (refuses d is) = absurd (true≢false (sym (ap (λ (x : Progress). x.stopped) is) ∙ on))
-        go (ends z e is) = absurd (true≢false (sym (ap (λ (x : Progress). x.stopped) is) ∙ on))
-        go (goes z e is) = (z, e, ap (λ (x : Progress). x.s) is)
+        go : Way → (f ≡ 0) × (is_end command ≡ false) × (next ≡ changed_state s command)
+        go (refuses d is) = let w : ◌≡◌ {A = ℕ} 2 0 = ap way_of (sym on ∙ is) in absurd (omega arith)
+        go (ends z e is) = let w : ◌≡◌ {A = ℕ} 2 1 = ap way_of (sym on ∙ is) in absurd (omega arith)
+        go (goes z e is) = (z, e, ap (state_of next) (sym on ∙ is))
 
     abbrev n' : ℕ
-    n' = p.s.n
+    n' = next.n
 
     -- there are as many teams as the command leaves
     count : n' ≡ (changed_state s command).n
@@ -283,7 +314,7 @@ module _ (file : List ℕ) (at : ℕ) (s : State) (rows : List ℕ) (here : Stan
     next_row = row_of n' command
 
     changed_row : row_at rows' next_row ≡ changed_team n' (row_at rows here_row) command
-    changed_row = done.row on ∙ go (opening s command)
+    changed_row = done.row next on ∙ go (opening s command)
       where
         go : Opening s command → changed_team n' (row_at rows next_row) command ≡ changed_team n' (row_at rows here_row) command
         go (none e) = ap (λ (k : ℕ). changed_team n' (row_at rows (row_of k command)) command) (count ∙ e)
@@ -292,7 +323,7 @@ module _ (file : List ℕ) (at : ℕ) (s : State) (rows : List ℕ) (here : Stan
     -- the rows are those of before, with that one changed
     rows_next : rows_in rows' n' ≡ set read next_row (changed_team n' (open_team read here_row) command)
     rows_next =
-        rows_set rows rows' s.n n' next_row (changed_team n' (row_at rows here_row) command) few' near changed_row (λ k l d. done.other k l (inr d)) ∙ ap (λ (team : Team). set read next_row (changed_team n' team command)) is_open
+        rows_set rows rows' s.n n' next_row (changed_team n' (row_at rows here_row) command) few' near changed_row (λ k l d. done.other k l (λ later e w. d (w ∙ ap (λ (x : State). row_of x.n command) (sym (ap (state_of next) (sym on ∙ e)))))) ∙ ap (λ (team : Team). set read next_row (changed_team n' team command)) is_open
       where
         few' : n' ≤ 12
         few' = let l = few_teams at s (row_at rows here_row) command few goes_on.0 in omega (arith, count)
@@ -300,11 +331,11 @@ module _ (file : List ℕ) (at : ℕ) (s : State) (rows : List ℕ) (here : Stan
         near : ((n' ≡ s.n) × ((next_row ≡ n') ⊎ (next_row ≡ 13))) ⊎ ((n' ≡ s.n + 1) × (next_row ≡ n'))
         near = elim (opening s command) [ none e ↦ inl (count ∙ e, row_of_lem n' command) | one e own free ↦ inr (count ∙ e, own n') ]
 
-    pub stands_next : length rows' ≡ length rows → Stands file (at + bytes_of command) p.s rows'
+    pub stands_next : length rows' ≡ length rows → Stands file (at + bytes_of command) next rows'
     stands_next long =
-        let next = run_next file at s read here.run (sym found ∙ goes_on.0) goes_on.1 in
+        let later = run_next file at s read here.run (sym found ∙ goes_on.0) goes_on.1 in
         record {
-          run = subst (Run file (at + bytes_of command) p.s) (sym rows_next) (subst (λ (x : State). Run file (at + bytes_of command) x (set read (row_of x.n command) (changed_team x.n (open_team read here_row) command))) (sym goes_on.2) next);
+          run = subst (Run file (at + bytes_of command) next) (sym rows_next) (subst (λ (x : State). Run file (at + bytes_of command) x (set read (row_of x.n command) (changed_team x.n (open_team read here_row) command))) (sym goes_on.2) later);
           long = long ∙ here.long;
         }
 

@@ -1,7 +1,7 @@
 -- The loop of `valuations_of`, and the matroids of the valuations.
 use Prim.Native.Nat.{ℕ, ◌^◌, ◌≤◌, ◌<◌}
 use mathlib.Core.Path.{◌≡◌, refl, sym, ap, ap₂, ◌∙◌}
-use mathlib.Core.Bool.{Bool, false, cond}
+use mathlib.Core.Bool.{Bool, true, false, cond}
 use mathlib.Core.List.{List, [], ◌∷◌}
 use native.Mathlib.Omega.{arith}
 use native.Mathlib.Decide.{dec_lt}
@@ -11,27 +11,24 @@ use borrow.Author.Tests.{lt-ltb, le-ltb}
 use Rattle.matroid.specs.Set.{◌∖◌}
 use Rattle.matroid.specs.Cuts.{each}
 use Rattle.sets.specs.Bits.{bit, word}
-use Rattle.sets.proofs.Lists.{get_d_any}
+use Rattle.std.proofs.lemmas.List.{get_or_default}
 use Rattle.team.specs.declared.Team.{Team}
 use Rattle.team.specs.Team.{blank_team}
 use Rattle.days.specs.declared.Days.{Days}
-use Rattle.days.specs.Days.{always, dated, usable_on}
-use Rattle.days.proofs.Holding.{undated}
+use Rattle.days.specs.Days.{always, usable_on}
 use Rattle.kinds.specs.declared.Valuation.{Valuation}
 use Rattle.kinds.specs.Valuations.{matroid_of, blank_valuation, matroids}
 use Rattle.plan.specs.declared.Reading.{Reading}
 use Rattle.plan.specs.Teams.{usable, usable_words, glued, glued_to, valuation_of, valuations_of, team_matroid}
 use Rattle.plan.specs.Valid.{Valid}
+use Rattle.plan.specs.Entries.{Entries}
+use Rattle.plan.proofs.Filling.{filled_all}
 use Rattle.plan.proofs.Gluing.{word_minus}
-use Rattle.sets.proofs.Each.{each_length, each_at, Tabled, tabled_all}
+use Rattle.sets.proofs.Each.{each_length, each_at}
 
--- the word of a team's usable instruments, by its days as the code has them, and where it has none by those of every day
-module _ (shelf : List Days) (m : ℕ) (days : List Days) (t : ℕ) (own d : Days) (l : t < length days) (is-own : own ≡ get_or days t d) where
-  pub word_own : (w : ℕ) → w ≡ word m (usable_on shelf own) → w ≡ word m (usable_on shelf (get_or days t always))
-  word_own w e = e ∙ ap (λ (x : Days). word m (usable_on shelf x)) (is-own ∙ get_d_any days t d always l)
-
-  pub word_every : (w : ℕ) (every : Days) → w ≡ word m (usable_on shelf every) → every ≡ always → dated own ≡ false → w ≡ word m (usable_on shelf (get_or days t always))
-  word_every w every e is none = word_own w (e ∙ ap (λ (x : Days). word m (usable_on shelf x)) (is ∙ sym (undated own none)))
+-- the word of a team, by its days as the code reads them
+pub own_word : (shelf : List Days) (m : ℕ) (days : List Days) (t : ℕ) (d : Days) → t < length days → word m (usable_on shelf (get_or days t d)) ≡ word m (usable_on shelf (get_or days t always))
+own_word shelf m days t d l = ap (λ (x : Days). word m (usable_on shelf x)) (get_or_default days t d always l)
 
 -- the word of a team of the plan in the table of these words
 pub word_at : (r : Reading) (t : ℕ) (words : List ℕ) → r.n ≤ 12 → t < r.n → words ≡ usable_words r.shelf r.m r.days r.n → get_or words t 0 ≡ word r.m (usable r t)
@@ -42,22 +39,26 @@ word_at r t words few l is =
 abbrev pub valued_at : Reading → ℕ → Valuation
 valued_at r t = record { team = get_or r.teams t blank_team; usable = word r.m (usable r t ∖ glued r); glued = word r.m (glued_to r t) }
 
--- as the code has it, by the team, the word of its usable instruments, and the words of those glued to anyone and to it
-pub valued_at_lem : (r : Reading) → Valid r → (t : ℕ) → t < r.n → (team d : Team) (words : List ℕ) (all own stuck : ℕ) → team ≡ get_or r.teams t d
-    → words ≡ usable_words r.shelf r.m r.days r.n → all ≡ word r.m (glued r) → own < 2 ^ 64 → ((j : ℕ) → bit own j ≡ (bit (get_or words t 0) ∖ bit all) j) → stuck ≡ word r.m (glued_to r t)
-    → record { team = team; usable = own; glued = stuck } ≡ valued_at r t
-valued_at_lem r valid t l team d words all own stuck is_team_lem is-words is_all fits is-own is_stuck =
+-- as the code has it, by the word of the team's usable instruments, and the words of those glued to anyone and to it
+pub valued_lem : (r : Reading) → Valid r → (t : ℕ) → t < r.n → (d : Team) (own all free stuck : ℕ) → own ≡ word r.m (usable r t) → all ≡ word r.m (glued r)
+    → free < 2 ^ 64 → ((j : ℕ) → bit free j ≡ (bit own ∖ bit all) j) → stuck ≡ word r.m (glued_to r t) → record { team = get_or r.teams t d; usable = free; glued = stuck } ≡ valuation_of r t
+valued_lem r valid t l d own all free stuck is-own is_all fits is-free is_stuck =
     let few = valid.few in
     let teams_long = valid.teams_long in
-    let here = word_at r t words few l is-words in
-    let free : own ≡ word r.m (usable r t ∖ glued r) = word_minus r.m (usable r t) (glued r) own valid.small fits (λ j. is-own j ∙ ap₂ (λ (x y : ℕ). (bit x ∖ bit y) j) here is_all) in
-    let same = is_team_lem ∙ get_d_any r.teams t d blank_team (omega arith) in
-    λ j. record { team = same j; usable = free j; glued = is_stuck j }
+    let same : get_or r.teams t d ≡ get_or r.teams t blank_team = get_or_default r.teams t d blank_team (omega arith) in
+    let left : free ≡ word r.m (usable r t ∖ glued r) = word_minus r.m (usable r t) (glued r) free valid.small fits (λ j. is-free j ∙ ap₂ (λ (x y : ℕ). (bit x ∖ bit y) j) is-own is_all) in
+    let here : valuation_of r t ≡ valued_at r t = rw (lt-ltb t r.n l) refl in
+    (λ j. record { team = same j; usable = left j; glued = is_stuck j }) ∙ sym here
 
--- the table that the loop has filled
-pub valued_all : (r : Reading) (row : List Valuation) → Tabled 12 (valued_at r) blank_valuation r.n row → row ≡ valuations_of r
+-- beyond the last team there is none
+cond_twice : {X : Type 0} (b : Bool) (v d : X) → cond b v d ≡ cond b (cond b v d) d
+cond_twice true v d = refl
+cond_twice false v d = refl
+
+pub valued_all : (r : Reading) (row : List Valuation) (none : Valuation) (gives : ℕ → Valuation → Type 0) → Entries 12 r.n none gives row → none ≡ blank_valuation
+    → ((t : ℕ) (x : Valuation) → t < r.n → gives t x → x ≡ valuation_of r t) → row ≡ valuations_of r
 unfolding valuations_of
-valued_all r row h = tabled_all 12 (valued_at r) blank_valuation r.n row h (valuation_of r) (λ t l. refl)
+valued_all r row none gives h blank is = filled_all 12 none gives r.n row h (valuation_of r) is blank_valuation blank (valuation_of r) (λ t l. cond_twice (ltb t r.n) (valued_at r t) blank_valuation)
 
 -- the valuations' matroids are those of the teams
 pub valuation_at : (r : Reading) → r.n ≤ 12 → (t : ℕ) → get_or (valuations_of r) t blank_valuation ≡ valuation_of r t
@@ -76,4 +77,4 @@ unfolding valuations_of
 valued_long r row e = ap length e ∙ each_length (valuation_of r) 12
 
 pub valued_here : (r : Reading) (row : List Valuation) (t : ℕ) (d : Valuation) → r.n ≤ 12 → t < r.n → row ≡ valuations_of r → get_or row t d ≡ valuation_of r t
-valued_here r row t d few l e = let long = valued_long r row e in get_d_any row t d blank_valuation (omega arith) ∙ ap (λ (x : List Valuation). get_or x t blank_valuation) e ∙ valuation_at r few t
+valued_here r row t d few l e = let long = valued_long r row e in get_or_default row t d blank_valuation (omega arith) ∙ ap (λ (x : List Valuation). get_or x t blank_valuation) e ∙ valuation_at r few t

@@ -6,3 +6,4 @@ pub mod Teams
 pub mod Worth
 pub mod Progress
 pub mod Valid
+pub mod Entries

@@ -1,8 +1,10 @@
 -- Read (document 01): a plan file's meaning.
-use Rattle.std.specs.Prelude.{ℕ, zero, suc, ◌+◌, true, false, not, cond, List, [], ◌∷◌, eqb, ltb, length, get_or, set, replicate}
+use Rattle.std.specs.Prelude.{ℕ, zero, suc, ◌+◌, true, false, not, cond, List, [], ◌∷◌, eqb, ltb, length, get_or, set, replicate, Ok, Result}
 use Rattle.matroid.specs.Cuts.{each}
 use Rattle.plan.specs.declared.Reading.{Reading}
 use Rattle.command.specs.declared.State.{State}
+use Rattle.command.specs.declared.refusal.Refusal.{Refusal}
+use Rattle.command.specs.Refusal.{refuse}
 use Rattle.team.specs.declared.Team.{Team}
 use Rattle.command.specs.Rule.{rule, first_broken}
 use Rattle.command.specs.Command.{command_at, bytes_of}
@@ -44,6 +46,10 @@ refused number place = record {
   days = replicate 12 zero_days;
   glue = replicate 64 0;
 }
+
+-- whether a file is accepted, by its reading: the number and the place where it is not
+abbrev pub acceptance : Reading → Result Unit Refusal
+acceptance r = cond (eqb r.refusal 0) (Ok tt) (refuse r.refusal r.place)
 
 -- of the rows that have been read, row 0 is the pool's, row n that of the team opened n-th and row 13 that of the glued instruments
 abbrev pub teams_of : List Team → List Team

@@ -18,30 +18,18 @@ fn marked(glue: [u8; 64], m: usize, number: u8) -> u64
     requires { m ≤ 64 }
     ensures { result ≡ word m (entries glue number) }
 {
-    let mut marked: u64 = 0;
-    for i in 0..m {
-        if glue[i] == number {
-            marked = sets::with(marked, i);
-        }
-    }
-    marked
+    sets::those(m, |i| glue[i] == number)
 }
 
 // Where the teams of the glued instruments stand in the table of rows.
 pub const GLUED: usize = 13 * row::WIDTH + row::NAMED;
 
-// Whether any instrument of a table is glued. They are counted, in a byte, which costs least.
+// Whether any instrument of a table is glued.
 pub fn some(glue: &[u8]) -> bool
     requires { length glue.now ≡ 64 }
     ensures { result ≡ ltb 0 (size 64 (named glue.now)) }
 {
-    let mut count: u8 = 0;
-    for i in 0..glue.len() {
-        if glue[i] != 255 {
-            count = count + 1;
-        }
-    }
-    count > 0
+    glue != [255u8; 64].as_slice()
 }
 
 // The instruments below m that are glued to anyone.
@@ -91,10 +79,8 @@ pub fn all_stand(s: State, rows: &[u8]) -> bool
     let all = of_all(glue, m);
     let shelf = parts::shelf(&rows[0..row::WIDTH], m);
     for t in 0..n {
-        let first = row::WIDTH * (t + 1);
-        let after = first + row::WIDTH;
-        let team = row::team(&rows[first..after]);
-        let days = row::days(&rows[first..after]);
+        let team = parts::team_at(rows, t);
+        let days = parts::days_at(rows, t);
         let usable = days::usable(shelf, m, days);
         let glued = of_team(glue, m, t, all);
         if !stands(team, usable, m, glued) {

@@ -1,8 +1,23 @@
 // Which instruments each team can use on its days, as words.
 ghost use Rattle.std.specs.Prelude.{◌≡◌, ◌≤◌};
+ghost use Rattle.sets.specs.Bits.{word};
+ghost use Rattle.days.specs.Days.{always, usable_on};
 ghost use Rattle.plan.specs.Teams.{usable_words};
 
+use super::filled::filled;
 use days::Days;
+
+// The usable instruments of a team on its own days, given those of a team without DAYS.
+fn on(shelf: [Days; 64], m: usize, own: Days, every: u64) -> u64
+    requires { (m ≤ 64) × (every ≡ word m (usable_on shelf always)) }
+    ensures { result ≡ word m (usable_on shelf own) }
+{
+    if days::dated(own) {
+        days::usable(shelf, m, own)
+    } else {
+        every
+    }
+}
 
 // The usable instruments of each of n teams, and none beyond. Those of a team without DAYS are found once for all such teams.
 pub fn words(shelf: [Days; 64], m: usize, days: [Days; 12], n: usize) -> [u64; 12]
@@ -10,14 +25,5 @@ pub fn words(shelf: [Days; 64], m: usize, days: [Days; 12], n: usize) -> [u64; 1
     ensures { result ≡ usable_words shelf m days n }
 {
     let every = days::usable(shelf, m, days::always());
-    let mut words = [0u64; 12];
-    for t in 0..n {
-        let own = days[t];
-        let mut word = every;
-        if days::dated(own) {
-            word = days::usable(shelf, m, own);
-        }
-        words[t] = word;
-    }
-    words
+    filled(n, 0, |t| on(shelf, m, days[t], every))
 }

@@ -1,63 +1,36 @@
--- The row of a team: copied, filled and read.
-use Prim.Native.Nat.{ℕ, zero, suc, ◌+◌, ◌≤◌, ◌<◌}
-use mathlib.Core.Path.{◌≡◌, refl, ◌∙◌}
-use mathlib.Core.Logic.{◌⊎◌, inl, inr, ◌≢◌}
-use mathlib.Core.List.{List, [], ◌∷◌}
+-- The row of a team: filled and read.
+use Prim.Native.Nat.{ℕ, ◌+◌, ◌-◌, ◌≤◌, ◌<◌}
+use mathlib.Core.Path.{◌≡◌, sym, ap, ◌∙◌}
+use mathlib.Core.Logic.{inl, inr}
+use mathlib.Core.List.{List, ◌++◌}
 use native.Mathlib.Omega.{arith}
-use native.Mathlib.Decide.{ℕ_discrete}
-use lib.ListN.{length, get_or, set, replicate, length-set}
+use lib.ListN.{length, get_or, take, drop, set, replicate, length-set, length-replicate, get_or-replicate}
 use lib.Seq.{get_or-set_same, get_or-set_other}
 use Rattle.team.specs.Team.{opened_team}
 use Rattle.days.specs.Days.{given}
 use Rattle.row.specs.Row.{part, row_team, Filled}
 use Rattle.row.specs.Days.{days_of, shelf_of}
-use Rattle.row.proofs.Parts.{part_read, part_is, part_all}
-
--- ---- copying
-
--- the first k entries of a table are those of the row from an offset on
-pub record Copied (row : List ℕ) (at : ℕ) (table : List ℕ) (k : ℕ) (r : List ℕ) : Type 0 where
-  pub long : length r ≡ length table
-  pub same : (i : ℕ) → i < k → get_or r i 0 ≡ get_or row (at + i) 0
-
-pub copied_none : (row : List ℕ) (at : ℕ) (table : List ℕ) → Copied row at table 0 table
-copied_none row at table = record { long = refl; same = λ i b. absurd (omega arith) }
-
-module _ (row : List ℕ) (at : ℕ) (table : List ℕ) (k : ℕ) (r : List ℕ) (h : Copied row at table k r) where
-  pub copied_next : k < length table → Copied row at table (k + 1) (set r k (get_or row (at + k) 0))
-  copied_next room = record {
-    long = length-set r k (get_or row (at + k) 0) ∙ h.long;
-    same = λ i b. elim (ℕ_discrete i k) [
-      | yes e ↦ let long = h.long in rw e (get_or-set_same r k (get_or row (at + k) 0) 0 (omega arith))
-      | no o ↦ get_or-set_other r k i (get_or row (at + k) 0) 0 o ∙ h.same i (omega arith)
-    ];
-  }
-
-  pub copied_all : length table ≤ k → at + length table ≤ length row → r ≡ part row at (length table)
-  copied_all full fits = part_is row at (length table) r fits h.long (λ i b. h.same i (omega arith))
+use Rattle.row.proofs.Parts.{part_length, part_read, part_all, put, put_length, put_within, put_before, put_after}
 
 -- ---- filling
 
-pub filled_none : (row : List ℕ) (from byte : ℕ) → Filled row from from byte row
-filled_none row from byte = record { long = refl; new = λ i d a b. absurd (omega arith); old = λ i d o. refl }
+-- a part of a row that is filled
+module _ (row : List ℕ) (from many byte : ℕ) (fits : from + many ≤ length row) (ys : List ℕ) (is : ys ≡ replicate (length (part row from many)) byte) where
+  filled : ys ≡ replicate many byte
+  filled = is ∙ ap (λ (n : ℕ). replicate n byte) (part_length row from many fits)
 
-pub filled_next : (row : List ℕ) (from k byte : ℕ) (r : List ℕ) → Filled row from k byte r → from ≤ k → k < length row → Filled row from (k + 1) byte (set r k byte)
-filled_next row from k byte r h low room = record {
-  long = length-set r k byte ∙ h.long;
-  new = λ i d a b. elim (ℕ_discrete i k) [
-    | yes e ↦ let long = h.long in rw e (get_or-set_same r k byte d (omega arith))
-    | no o ↦ get_or-set_other r k i byte d o ∙ h.new i d a (omega arith)
-  ];
-  old = λ i d out. get_or-set_other r k i byte d (apart i out) ∙ h.old i d (before i out);
-}
-  where
-    apart : (i : ℕ) → (i < from) ⊎ (k + 1 ≤ i) → i ≢ k
-    apart i (inl a) e = absurd (omega arith)
-    apart i (inr a) e = absurd (omega arith)
+  long_ys : length ys ≡ many
+  long_ys = ap length filled ∙ length-replicate many byte
 
-    before : (i : ℕ) → (i < from) ⊎ (k + 1 ≤ i) → (i < from) ⊎ (k ≤ i)
-    before i (inl a) = inl a
-    before i (inr a) = inr (omega arith)
+  pub filled_part : Filled row from (from + many) byte (take from row ++ (ys ++ drop many (drop from row)))
+  filled_part = record {
+    long = put_length row from many fits ys long_ys;
+    new = λ i d low high.
+        let e : from + (i - from) ≡ i = omega arith in
+        ap (λ (k : ℕ). get_or (put row from many fits ys long_ys) k d) (sym e) ∙ put_within row from many fits ys long_ys (i - from) d (omega arith)
+        ∙ ap (λ (x : List ℕ). get_or x (i - from) d) filled ∙ get_or-replicate many (i - from) byte d (omega arith);
+    old = λ i d o. elim o [ inl l ↦ put_before row from many fits ys long_ys i d l | inr l ↦ put_after row from many fits ys long_ys i d l ];
+  }
 
 -- ---- a row
 
@@ -81,19 +54,7 @@ row_opened row r r' kind channels cap long f g =
     }
 
 module _ (row : List ℕ) (long : length row ≡ 343) where
-  -- the five bytes at the end of a row
-  pub days_part : get_or row 338 0 ∷ get_or row 339 0 ∷ get_or row 340 0 ∷ get_or row 341 0 ∷ get_or row 342 0 ∷ [] ≡ part row 338 5
-  days_part = part_is row 338 5 (get_or row 338 0 ∷ get_or row 339 0 ∷ get_or row 340 0 ∷ get_or row 341 0 ∷ get_or row 342 0 ∷ []) (omega arith) refl five
-    where
-      five : (i : ℕ) → i < 5 → get_or (get_or row 338 0 ∷ get_or row 339 0 ∷ get_or row 340 0 ∷ get_or row 341 0 ∷ get_or row 342 0 ∷ []) i 0 ≡ get_or row (338 + i) 0
-      five zero b = refl
-      five (suc zero) b = refl
-      five (suc (suc zero)) b = refl
-      five (suc (suc (suc zero))) b = refl
-      five (suc (suc (suc (suc zero)))) b = refl
-      five (suc (suc (suc (suc (suc i))))) b = absurd (omega arith)
-
-  -- the days of a team, by these bytes
+  -- the days of a team, by the five bytes at the end of its row
   pub days_read : given (get_or row 338 0) (get_or row 339 0) (get_or row 340 0) (get_or row 341 0) (get_or row 342 0) ≡ days_of (row_team row)
   unfolding row_team
   days_read =

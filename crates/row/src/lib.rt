@@ -6,7 +6,7 @@
 
 ghost use Rattle.std.specs.Prelude.{◌≡◌, ◌+◌, ◌≤◌, ◌<◌, length};
 ghost use Rattle.team.specs.Team.{opened_team};
-ghost use Rattle.row.specs.Row.{part, row_team, Filled};
+ghost use Rattle.row.specs.Row.{part, row_team};
 ghost use Rattle.row.specs.Days.{days_of, shelf_of};
 
 use days::Days;
@@ -36,16 +36,6 @@ pub const FOURTH: usize = 274;
 // Where the byte of the command that says the days stands, and after it the bytes of the days.
 pub const DAYS: usize = 338;
 
-// Writes a byte from one offset up to another.
-fn fill(row: &mut [u8], from: usize, to: usize, byte: u8)
-    requires { (from ≤ to) × (to ≤ length row.old) }
-    ensures { Filled row.old from to byte row.new }
-{
-    for i in from..to {
-        row[i] = byte;
-    }
-}
-
 // A team that has just been opened, with one cap for each class.
 pub fn open(row: &mut [u8], kind: u8, channels: u8, cap: u8)
     requires { length row.old ≡ 343 }
@@ -53,60 +43,28 @@ pub fn open(row: &mut [u8], kind: u8, channels: u8, cap: u8)
 {
     row[0] = kind;
     row[1] = channels;
-    fill(row, CAP, NAMED, cap);
-    fill(row, NAMED, WIDTH, 255);
+    row[CAP..NAMED].fill(cap);
+    row[NAMED..WIDTH].fill(255);
 }
 
-// Copies the bytes from an offset on into a table.
-fn copy(row: &[u8], at: usize, table: &mut [u8])
-    requires { at + length table.old ≤ length row.now }
-    ensures { table.new ≡ part row.now at (length table.old) }
+// The N bytes at an offset of a row.
+#[tactic(auto, unfolding(crate::specs::Row::part))]
+fn bytes<const N: usize>(row: &[u8], at: usize) -> [u8; N]
+    requires { at + N ≤ length row.now }
+    ensures { result ≡ part row.now at N }
 {
-    for i in 0..table.len() {
-        table[i] = row[at + i];
-    }
-}
-
-// The caps of a row.
-fn caps(row: &[u8]) -> [u8; 16]
-    requires { length row.now ≡ 343 }
-    ensures { result ≡ part row.now 2 16 }
-{
-    let mut caps = [0u8; 16];
-    copy(row, CAP, &mut caps);
-    caps
-}
-
-// The command that says the days of a row, with its operands.
-fn days_command(row: &[u8]) -> [u8; 5]
-    requires { length row.now ≡ 343 }
-    ensures { result ≡ part row.now 338 5 }
-{
-    [
-        row[DAYS],
-        row[DAYS + 1],
-        row[DAYS + 2],
-        row[DAYS + 3],
-        row[DAYS + 4],
-    ]
-}
-
-// The table of 64 bytes at an offset of a row.
-fn table(row: &[u8], at: usize) -> [u8; 64]
-    requires { at + 64 ≤ length row.now }
-    ensures { result ≡ part row.now at 64 }
-{
-    let mut table = [0u8; 64];
-    copy(row, at, &mut table);
-    table
+    let mut bytes = [0u8; N];
+    bytes.copy_from_slice(&row[at..at + N]);
+    bytes
 }
 
 // The bytes of the commands that name the instruments in a row; in the row of the glued ones, their teams.
+#[tactic(auto, unfolding(crate::specs::Row::row_team))]
 pub fn names(row: &[u8]) -> [u8; 64]
     requires { length row.now ≡ 343 }
     ensures { result ≡ (row_team row.now).named }
 {
-    table(row, NAMED)
+    bytes(row, NAMED)
 }
 
 // The team of a row.
@@ -117,13 +75,13 @@ pub fn team(row: &[u8]) -> Team
     Team {
         kind: row[0],
         channels: row[1],
-        cap: caps(row),
-        named: table(row, NAMED),
-        first: table(row, FIRST),
-        second: table(row, SECOND),
-        third: table(row, THIRD),
-        fourth: table(row, FOURTH),
-        days: days_command(row),
+        cap: bytes(row, CAP),
+        named: bytes(row, NAMED),
+        first: bytes(row, FIRST),
+        second: bytes(row, SECOND),
+        third: bytes(row, THIRD),
+        fourth: bytes(row, FOURTH),
+        days: bytes(row, DAYS),
     }
 }
 

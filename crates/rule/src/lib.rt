@@ -3,239 +3,149 @@
 // condition.
 #![tactic(auto)]
 
-ghost use Rattle.std.specs.Prelude.{◌≤◌};
+ghost use Rattle.std.specs.Prelude.{◌≡◌, ◌&&◌, ℕ, ◌<◌, ◌≤◌, ◌∷◌, [], ltb, min, slice_index};
+ghost use Rattle.sets.specs.Bits.{bit};
 
-use team::Team;
+use team::{Kind, Team};
 
 pub mod glue;
 mod hall;
 pub mod loan;
+pub mod random;
 
 // Joints are 0 to 39: written here once more, so that the tests see a wrong number in the code.
 pub const JOINTS: u8 = 40;
 
-// The members of a set that are of a class.
-fn of_class(class: [u8; 64], set: u64, c: usize) -> u64 {
-    let mut part: u64 = 0;
-    for g in 0..64usize {
-        let own = class[g] as usize;
-        if sets::member(set, g) {
-            if own == c {
-                part = sets::with(part, g);
-            }
-        }
+// A rule of independence, and what it says of a set.
+pub trait Independence {
+    // Whether a set is independent.
+    fn independent(&self, set: u64) -> bool;
+
+    // The size of the largest independent part of a set that has at most seven members below m.
+    final fn worth(&self, m: usize, set: u64) -> usize
+        ensures { result ≤ 64 }
+    {
+        let members = below(m, set);
+        (0..128u64).fold(
+            0,
+            |most, digits|
+                ensures { most ≤ 64 → result ≤ 64 }
+            {
+                let part = picked(members, digits);
+                let size = sets::size(part);
+                if size > most && self.independent(part) {
+                    size
+                } else {
+                    most
+                }
+            },
+        )
     }
-    part
+
+    // The instruments below m, outside an independent set, with which it stays independent.
+    final fn gains(&self, m: usize, set: u64) -> u64 {
+        let members = below(m, set);
+        sets::members(sets::minus(below(m, u64::MAX), members))
+            .filter(|g| self.independent(sets::with(members, *g)))
+            .fold(0, sets::with)
+    }
+
+    // An independent set with members of another below m: each, in rising order, that keeps it independent.
+    final fn joined(&self, m: usize, start: u64, set: u64) -> u64 {
+        sets::members(below(m, set)).fold(start, |larger, g| {
+            let next = sets::with(larger, g);
+            if self.independent(next) { next } else { larger }
+        })
+    }
 }
 
-// Whether each member was put in a class.
-fn all_put(class: [u8; 64], set: u64) -> bool {
-    for g in 0..64usize {
-        if sets::member(set, g) {
-            if class[g] > 15 {
-                return false;
+// To a team of no kind only the empty set is independent.
+impl Independence for Team {
+    fn independent(&self, set: u64) -> bool {
+        sets::size(set) <= usize::from(self.channels)
+            && match Kind::try_from(self.kind) {
+                Ok(Kind::Caps) => caps_allow(self, set),
+                Ok(Kind::Loops) => loops_allow(self, set),
+                Ok(Kind::Mounts) => hall::allow(self, set),
+                Err(_) => set == 0,
             }
-        }
     }
-    true
 }
 
-// Whether no class has more members than its cap.
-fn within_caps(class: [u8; 64], cap: [u8; 16], set: u64) -> bool {
-    for c in 0..16usize {
-        let most = cap[c] as usize;
-        if sets::size(of_class(class, set, c)) > most {
-            return false;
-        }
-    }
-    true
+// The command that names an instrument: its byte, 255 where there is none, and its four operands after the instrument.
+// Kept (points 1, 6): Team has 255 for no command and a table for each operand, as blank_team and the theorems on a reading have it.
+pub fn naming(team: &Team, g: usize) -> [u8; 5]
+    requires { g < 64 }
+    ensures { result ≡ slice_index team.now.named g ∷ slice_index team.now.first g ∷ slice_index team.now.second g ∷ slice_index team.now.third g
+        ∷ slice_index team.now.fourth g ∷ [] }
+{
+    [
+        team.named[g],
+        team.first[g],
+        team.second[g],
+        team.third[g],
+        team.fourth[g],
+    ]
+}
+
+// How many members of a set are of a class.
+fn of_class(team: &Team, set: u64, class: usize) -> usize {
+    sets::members(set)
+        .filter(|g| usize::from(team.first[*g]) == class)
+        .count()
+}
+
+// Independence for a CAPS team, channels aside: each member is in a class, and no class has more members than its cap.
+fn caps_allow(team: &Team, set: u64) -> bool {
+    sets::members(set).all(|g| team.first[g] < 16)
+        && (0..16).all(|class| of_class(team, set, class) <= usize::from(team.cap[class]))
 }
 
 // Whether an instrument's ends are two different joints.
 fn spans(a: u8, b: u8) -> bool {
-    if a >= JOINTS {
-        return false;
-    }
-    if b >= JOINTS {
-        return false;
-    }
-    a != b
+    a < JOINTS && b < JOINTS && a != b
 }
 
-// Whether each member has a span.
-fn all_span(first: [u8; 64], second: [u8; 64], set: u64) -> bool {
-    for g in 0..64usize {
-        let a = first[g];
-        let b = second[g];
-        if sets::member(set, g) {
-            if !spans(a, b) {
-                return false;
-            }
-        }
-    }
-    true
+// How many members of a set have an end at a joint.
+fn at_joint(team: &Team, set: u64, joint: u8) -> usize {
+    sets::members(set)
+        .filter(|g| team.first[*g] == joint || team.second[*g] == joint)
+        .count()
 }
 
-// Whether a gauge has an end at a joint.
-fn touches(a: u8, b: u8, joint: u8) -> bool {
-    if a == joint {
-        return true;
-    }
-    b == joint
-}
-
-// The members of a set that have an end at a joint.
-fn at_joint(first: [u8; 64], second: [u8; 64], set: u64, joint: u8) -> u64 {
-    let mut part: u64 = 0;
-    for g in 0..64usize {
-        let a = first[g];
-        let b = second[g];
-        if sets::member(set, g) {
-            if touches(a, b, joint) {
-                part = sets::with(part, g);
-            }
-        }
-    }
-    part
-}
-
-// Whether a member has an end where no other member has one.
-fn loose(first: [u8; 64], second: [u8; 64], set: u64, a: u8, b: u8) -> bool {
-    if sets::size(at_joint(first, second, set, a)) == 1 {
-        return true;
-    }
-    sets::size(at_joint(first, second, set, b)) == 1
-}
-
-// A set without its loose members.
-fn trimmed(first: [u8; 64], second: [u8; 64], set: u64) -> u64 {
-    let mut rest = set;
-    for g in 0..64usize {
-        let a = first[g];
-        let b = second[g];
-        if sets::member(set, g) {
-            if loose(first, second, set, a, b) {
-                rest = sets::without(rest, g);
-            }
-        }
-    }
-    rest
+// A set without its loose members: those with an end where no other member has one.
+fn trimmed(team: &Team, set: u64) -> u64 {
+    let alone = |joint| at_joint(team, set, joint) == 1;
+    sets::members(set)
+        .filter(|g| !alone(team.first[*g]) && !alone(team.second[*g]))
+        .fold(0, sets::with)
 }
 
 // Whether a set of spans has no closed loop: trimming it as often as it has members leaves nothing.
-fn loop_free(first: [u8; 64], second: [u8; 64], set: u64) -> bool {
-    let turns = sets::size(set);
+fn loop_free(team: &Team, set: u64) -> bool {
     let mut rest = set;
-    let mut turn: usize = 0;
-    while turn < turns {
-        rest = trimmed(first, second, rest);
-        turn += 1;
+    for _ in 0..sets::size(set) {
+        rest = trimmed(team, rest);
     }
     rest == 0
 }
 
-// Independence for a CAPS team, channels aside.
-fn caps_allow(team: Team, set: u64) -> bool {
-    let class = team.first;
-    let cap = team.cap;
-    if !all_put(class, set) {
-        return false;
-    }
-    within_caps(class, cap, set)
-}
-
 // Independence for a LOOPS team, channels aside.
-fn loops_allow(team: Team, set: u64) -> bool {
-    let first = team.first;
-    let second = team.second;
-    if !all_span(first, second, set) {
-        return false;
-    }
-    loop_free(first, second, set)
-}
-
-// Whether a team finds a set independent. To a team of no kind only the empty set is.
-pub fn independent(team: Team, set: u64) -> bool {
-    let channels = team.channels as usize;
-    let kind = team.kind;
-    if sets::size(set) > channels {
-        return false;
-    }
-    match kind {
-        2 => caps_allow(team, set),
-        3 => loops_allow(team, set),
-        8 => hall::allow(team, set),
-        _ => set == 0,
-    }
+fn loops_allow(team: &Team, set: u64) -> bool {
+    sets::members(set).all(|g| spans(team.first[g], team.second[g])) && loop_free(team, set)
 }
 
 // The part of a set that the binary digits of a number pick, the lowest digit for the lowest member.
-fn picked(set: u64, digits: usize) -> u64 {
-    let mut part: u64 = 0;
-    let mut left = digits;
-    for g in 0..64usize {
-        if sets::member(set, g) {
-            if left % 2 == 1 {
-                part = sets::with(part, g);
-            }
-            left = left / 2;
-        }
-    }
-    part
+fn picked(set: u64, digits: u64) -> u64 {
+    sets::members(set)
+        .zip(0..64)
+        .filter(|(_, k)| sets::member(digits, *k))
+        .fold(0, |part, (g, _)| sets::with(part, g))
 }
 
 // The members below m.
 pub fn below(m: usize, set: u64) -> u64
-    requires { m ≤ 64 }
+    ensures { (j : ℕ) → bit result j ≡ (bit set j && ltb j (min m 64)) }
 {
-    sets::both(set, sets::all_below(m))
-}
-
-// The size of the largest independent part of a set that has at most seven members below m.
-pub fn worth(team: Team, m: usize, set: u64) -> usize
-    requires { m ≤ 64 }
-{
-    let members = below(m, set);
-    let mut most: usize = 0;
-    for digits in 0..128usize {
-        let part = picked(members, digits);
-        let size = sets::size(part);
-        if size > most {
-            if independent(team, part) {
-                most = size;
-            }
-        }
-    }
-    most
-}
-
-// The instruments below m, outside an independent set, with which it stays independent.
-pub fn gains(team: Team, m: usize, set: u64) -> u64
-    requires { m ≤ 64 }
-{
-    let members = below(m, set);
-    let mut joining: u64 = 0;
-    for g in 0..m {
-        if !sets::member(members, g) {
-            if independent(team, sets::with(members, g)) {
-                joining = sets::with(joining, g);
-            }
-        }
-    }
-    joining
-}
-
-// An independent set with members of another below m: each, in rising order, that keeps it independent.
-pub fn joined(team: Team, m: usize, start: u64, set: u64) -> u64
-    requires { m ≤ 64 }
-{
-    let mut larger = start;
-    for g in 0..m {
-        if sets::member(set, g) {
-            if independent(team, sets::with(larger, g)) {
-                larger = sets::with(larger, g);
-            }
-        }
-    }
-    larger
+    sets::both(set, sets::all_below(m.min(64)))
 }

@@ -1,9 +1,13 @@
 // Loan days by the words of note 4: "An instrument can be in a team's independent set only if the team's days lie within its shelf days". The
 // SHELFs stand in a team of their own, the pool's, which names an instrument by the byte of SHELF and the four bytes of its days.
-ghost use Rattle.std.specs.Prelude.{◌<◌};
+ghost use Rattle.std.specs.Prelude.{◌≡◌, ◌<◌, ◌≤◌, ◌/◌, ◌%◌, ◌∷◌, [], slice_index, slice_set};
 
-use std::num::wrapping_sub_u64;
 use team::Team;
+
+// The bytes of the commands with days: of an instrument, and of a team.
+pub const SHELF: u8 = 10;
+
+pub const DAYS: u8 = 11;
 
 // Days: "from is included, to is not".
 #[derive(Clone, Copy)]
@@ -12,58 +16,76 @@ pub struct Loan {
     pub to: u64,
 }
 
-// A day of 16 bits, the low byte first.
-fn day(low: u8, high: u8) -> u64 {
-    low as u64 | (high as u64) << 8
-}
-
-// The days of a command, by its byte and the four bytes of its days: "Without a SHELF or DAYS the days are 0 to 65,535".
-fn named(command: u8, a: u8, b: u8, c: u8, d: u8) -> Loan {
-    if command == 255 {
-        return Loan { from: 0, to: 65535 };
+impl Loan {
+    // The days of a command, by its byte and the four bytes of its days, the low byte of each first: "Without a SHELF or DAYS the days are 0 to
+    // 65,535".
+    fn named(command: [u8; 5]) -> Loan {
+        match command {
+            [255, ..] => Loan { from: 0, to: 65535 },
+            [_, a, b, c, d] => Loan {
+                from: u64::from(u16::from_le_bytes([a, b])),
+                to: u64::from(u16::from_le_bytes([c, d])),
+            },
+        }
     }
-    Loan {
-        from: day(a, b),
-        to: day(c, d),
+
+    // The days of a team.
+    pub fn of_team(team: &Team) -> Loan {
+        Loan::named(team.days)
+    }
+
+    // The shelf days of an instrument.
+    pub fn of_instrument(pool: &Team, g: usize) -> Loan
+        requires { g < 64 }
+    {
+        Loan::named(super::naming(pool, g))
+    }
+
+    // Whether a day is one of these days.
+    fn has(self, day: u64) -> bool {
+        (self.from..self.to).contains(&day)
+    }
+
+    // Whether these days lie within shelf days: the first of them and the last are shelf days.
+    pub fn within(self, shelf: Loan) -> bool {
+        shelf.has(self.from) && shelf.has(self.to.wrapping_sub(1))
     }
 }
 
-// The days of a team.
-pub fn of_team(team: Team) -> Loan {
-    let bytes = team.days;
-    named(bytes[0], bytes[1], bytes[2], bytes[3], bytes[4])
-}
-
-// The shelf days of an instrument.
-pub fn of_instrument(pool: Team, g: usize) -> Loan
-    requires { g < 64 }
+// A command with its days, by its byte, and none where from is not below to.
+pub fn command(byte: u8, from: u16, to: u16) -> [u8; 5]
+    ensures days { from < to → result ≡ byte ∷ from % 256 ∷ from / 256 ∷ to % 256 ∷ to / 256 ∷ [] }
+    ensures none { to ≤ from → result ≡ 255 ∷ 255 ∷ 255 ∷ 255 ∷ 255 ∷ [] }
 {
-    let command = pool.named;
-    let first = pool.first;
-    let second = pool.second;
-    let third = pool.third;
-    let fourth = pool.fourth;
-    named(command[g], first[g], second[g], third[g], fourth[g])
+    if from >= to {
+        return [255; 5];
+    }
+    let [a, b] = from.to_le_bytes();
+    let [c, d] = to.to_le_bytes();
+    [byte, a, b, c, d]
 }
 
-// Whether a day is one of some days.
-fn has(days: Loan, day: u64) -> bool {
-    days.from <= day && day < days.to
-}
-
-// Whether days lie within shelf days: the first of them and the last are shelf days.
-pub fn within(days: Loan, shelf: Loan) -> bool {
-    has(shelf, days.from) && has(shelf, wrapping_sub_u64(days.to, 1))
+// Puts the SHELF of an instrument into the pool.
+pub fn put_shelf(pool: &mut Team, g: usize, command: [u8; 5])
+    requires { g < 64 }
+    ensures { pool.new ≡ record pool.old {
+      named = slice_set pool.old.named g (slice_index command 0);
+      first = slice_set pool.old.first g (slice_index command 1);
+      second = slice_set pool.old.second g (slice_index command 2);
+      third = slice_set pool.old.third g (slice_index command 3);
+      fourth = slice_set pool.old.fourth g (slice_index command 4);
+    } }
+{
+    let [named, first, second, third, fourth] = command;
+    pool.named[g] = named;
+    pool.first[g] = first;
+    pool.second[g] = second;
+    pool.third[g] = third;
+    pool.fourth[g] = fourth;
 }
 
 // The instruments that a team can use on its days.
-pub fn usable(pool: Team, team: Team) -> u64 {
-    let own = of_team(team);
-    let mut set: u64 = 0;
-    for g in 0..64usize {
-        if within(own, of_instrument(pool, g)) {
-            set = sets::with(set, g);
-        }
-    }
-    set
+pub fn usable(pool: &Team, team: &Team) -> u64 {
+    let own = Loan::of_team(team);
+    sets::those(64, |g| own.within(Loan::of_instrument(pool, g)))
 }

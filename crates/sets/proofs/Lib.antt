@@ -1,11 +1,11 @@
-pub mod Lists
 pub mod Each
 pub mod Tests
 pub mod Words
 pub mod Trailing
 pub mod Equal
 pub mod Gathering
+pub mod Choosing
 pub mod Below
-pub mod Members
+pub mod Through
 pub mod Growing
 pub mod Assigning

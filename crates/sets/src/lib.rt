@@ -1,11 +1,18 @@
 // A set of instruments as a 64-bit word: bit k stands for instrument k.
+// Kept (point 5): m ≤ 64 and k < 64 stand in each contract, since the public functions take plain numbers and may ask no more of callers.
 #![tactic(auto)]
 
 ghost use Rattle.std.specs.Prelude.{◌≡◌, ◌&&◌, not, ℕ, ◌<◌, ◌≤◌, length};
 ghost use Rattle.matroid.specs.Set.{◌∪◌, ◌∩◌, ◌∖◌, only, with, without, under, complement, size};
 ghost use Rattle.sets.specs.Bits.{bit};
 ghost use Rattle.sets.specs.Lowest.{Lowest};
+ghost use Rattle.sets.specs.Next.{First};
 ghost use Rattle.sets.specs.Assigned.{Assigned};
+ghost use Rattle.sets.specs.Chosen.{Chosen};
+
+pub mod iter;
+
+use iter::Members;
 
 // Whether k is in s.
 pub fn member(s: u64, k: usize) -> bool
@@ -65,25 +72,37 @@ pub fn all_below(m: usize) -> u64
     requires { m ≤ 64 }
     ensures { (j : ℕ) → bit result j ≡ under m j }
 {
-    if m < 64 {
-        (1u64 << m) - 1
-    } else {
-        0xffff_ffff_ffff_ffff
-    }
+    if m < 64 { (1u64 << m) - 1 } else { u64::MAX }
 }
 
 // The least member of s, or 64 where s is empty.
+// Kept (point 1): Lowest, which holds the clause, says 64 of an empty set. first answers an Option.
 pub fn lowest(s: u64) -> usize
     ensures { Lowest s result }
 {
-    u64::trailing_zeros(s) as usize
+    s.trailing_zeros() as usize
+}
+
+// The least member of s, if s has one.
+pub fn first(s: u64) -> Option<usize>
+    ensures { First s result }
+{
+    let k = lowest(s);
+    if k < 64 { Some(k) } else { None }
+}
+
+// The members of a set, rising.
+pub fn members(set: u64) -> Members
+    ensures { result.left ≡ set }
+{
+    Members { left: set }
 }
 
 // How many are in s: the ones of the word.
 pub fn size(s: u64) -> usize
     ensures { result ≡ size 64 (bit s) }
 {
-    u64::count_ones(s) as usize
+    s.count_ones() as usize
 }
 
 // The members of a set below m that are not in another.
@@ -110,11 +129,26 @@ pub fn outside(m: usize, set: u64) -> usize
     size(minus(all_below(m), set))
 }
 
+// The numbers below m that pass a test.
+pub fn those<F: Fn(usize) -> bool>(m: usize, test: F) -> u64
+    requires small { m ≤ 64 }
+    requires callable { (i : ℕ) → i < m → F.pre test i }
+    ensures { Chosen m (F.post test) result }
+{
+    let mut set = 0;
+    for i in 0..m {
+        if test(i) {
+            set = with(set, i);
+        }
+    }
+    set
+}
+
 // A byte as a number.
 pub fn wide(byte: u8) -> usize
     ensures { result ≡ byte }
 {
-    byte as usize
+    usize::from(byte)
 }
 
 // Writes a value at each member of a set.
@@ -122,13 +156,7 @@ pub fn assign(table: &mut [u8; 64], set: u64, value: u8)
     requires { length table.old ≡ 64 }
     ensures { Assigned table.old set value table.new }
 {
-    let mut left = set;
-    loop {
-        let k = lowest(left);
-        if k >= 64 {
-            return;
-        }
+    for k in members(set) {
         table[k] = value;
-        left = without(left, k);
     }
 }

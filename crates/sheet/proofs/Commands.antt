@@ -1,4 +1,4 @@
--- The first fault of each command, from the bytes and from the answers for its pieces.
+-- The first fault of a byte and of bytes with a test each, and the lengths of the pieces of a sheet.
 use Prim.Native.Nat.{ℕ, zero, suc, ◌+◌, ◌*◌, ◌-◌, ◌^◌, ◌≤◌, ◌<◌}
 use mathlib.Core.Path.{◌≡◌, refl, sym, ap, ◌∙◌, fun_ext}
 use mathlib.Core.Bool.{Bool, true, false, ◌||◌, cond}
@@ -11,7 +11,7 @@ use borrow.Author.Tests.{lt-ltb, le-ltb, eq-eqb, ne_eqb}
 use Rattle.matroid.specs.Set.{Set}
 use Rattle.matroid.specs.Cuts.{each}
 use Rattle.sheet.specs.Form.{Test, is, below, holder, any, command, bound, part, present_page, away_part, away_page, page, set, set_byte, first_fault}
-use Rattle.sheet.proofs.Faults.{Passes, fault_done, fault_stop, fault_to, length_each, each_none, each_stop, each_next, each_done}
+use Rattle.sheet.proofs.Faults.{Passes, length_each, each_none, each_stop, each_next, each_done}
 
 module _ (s : List ℕ) where
   -- ---- one byte
@@ -27,45 +27,6 @@ module _ (s : List ℕ) where
   pub fault_end : (at r : ℕ) → r ≡ at → r ≡ first_fault [] s at
   unfolding first_fault
   fault_end at r e = e
-
-  -- ---- one piece after another
-
-  -- the first piece has a fault
-  pub piece_stop : (a b : List Test) (at r w : ℕ) → length a ≡ w → r ≡ first_fault a s at → r < at + w → r ≡ first_fault (a ++ b) s at
-  piece_stop a b at r w e h l = h ∙ sym (fault_stop s a b at (λ d. omega arith))
-
-  -- the first piece passes
-  pub piece_past : (a b : List Test) (at next r k w : ℕ) → length a ≡ w → k ≡ first_fault a s at → at + w ≤ k → next ≡ at + w → r ≡ first_fault b s next → r ≡ first_fault (a ++ b) s at
-  piece_past a b at next r k w e h l step rest =
-      let upper = fault_to s a at in
-      let here : at + length a ≡ next = omega arith in
-      rest ∙ ap (first_fault b s) (sym here) ∙ sym (fault_done s a b at (omega arith))
-
-  -- ---- the commands
-
-  pub command_byte : (at byte number : ℕ) → get_or s at 0 ≢ byte → at ≡ first_fault (command byte number) s at
-  command_byte at byte number d = fault_here (is byte) _ at (ne_eqb _ byte d)
-
-  pub command_number : (at byte number w : ℕ) → get_or s at 0 ≡ byte → w ≡ get_or s (at + 1) 0 → w ≢ number → at + 1 ≡ first_fault (command byte number) s at
-  command_number at byte number w e is_w d = fault_past (is byte) _ at (at + 1) _ (eq-eqb _ byte e) refl (fault_here (is number) _ (at + 1) (ne_eqb _ number (λ x. d (is_w ∙ x))))
-
-  pub command_both : (at byte number w : ℕ) → get_or s at 0 ≡ byte → w ≡ get_or s (at + 1) 0 → w ≡ number → at + 2 ≡ first_fault (command byte number) s at
-  command_both at byte number w e is_w f =
-      fault_past (is byte) _ at (at + 1) _ (eq-eqb _ byte e) refl
-      (fault_past (is number) _ (at + 1) (at + 2) _ (eq-eqb _ number (sym is_w ∙ f)) (omega arith) (fault_end (at + 2) _ refl))
-
-  -- a command with one byte more
-  module _ (at byte number k : ℕ) (is-k : k ≡ first_fault (command byte number) s at) (test : Test) where
-    pub command_stop : (rest : List Test) → k < at + 2 → k ≡ first_fault (command byte number ++ test ∷ rest) s at
-    command_stop rest l = piece_stop (command byte number) (test ∷ rest) at k 2 refl is-k l
-
-    pub command_last : at + 2 ≤ k → (rest : List Test) → test (get_or s (at + 2) 0) ≡ false → at + 2 ≡ first_fault (command byte number ++ test ∷ rest) s at
-    command_last l rest e = piece_past (command byte number) (test ∷ rest) at (at + 2) _ k 2 refl is-k l refl (fault_here test rest (at + 2) e)
-
-    pub command_rest : at + 2 ≤ k → (rest : List Test) (next r : ℕ) → test (get_or s (at + 2) 0) ≡ true → next ≡ at + 3 → r ≡ first_fault rest s next → r ≡ first_fault (command byte number ++ test ∷ rest) s at
-    command_rest l rest next r e step h =
-        piece_past (command byte number) (test ∷ rest) at (at + 2) r k 2 refl is-k l refl
-        (fault_past test rest (at + 2) next r e (omega arith) h)
 
 -- a team that is none and not the pool, and one that is
 pub holder_none : (n t b : ℕ) → t ≡ b → n ≤ t → t ≢ 255 → holder n b ≡ false
@@ -170,22 +131,3 @@ page_length_lem m p present t =
     let b = nine_length m (present t) in
     let c = row_length 21 (last p (present t)) m in
     ap length (page_is m p present t) ∙ (omega arith)
-
--- the first fault of a page
-module _ (s : List ℕ) (at m p : ℕ) (here : Bool) (t k : ℕ) (is-k : k ≡ first_fault (command 20 t) s at) where
-  -- its command has a fault
-  pub page_command : k < at + 2 → k ≡ first_fault (page_of m p here t) s at
-  page_command l = piece_stop s (command 20 t) _ at k 2 refl is-k l
-
-  module _ (passes : at + 2 ≤ k) (b : ℕ) (is_b : b ≡ first_fault (nine m here) s (at + 2)) where
-    -- its share or set has one
-    pub page_nine : b < at + 11 → b ≡ first_fault (page_of m p here t) s at
-    page_nine l =
-        piece_past s (command 20 t) _ at (at + 2) b k 2 refl is-k passes refl
-        (piece_stop s (nine m here) _ (at + 2) b 9 (nine_length m here) is_b (omega arith))
-
-    -- its parts decide
-    pub page_parts : at + 11 ≤ b → (r : ℕ) → r ≡ first_fault (row 21 (last p here) m) s (at + 11) → r ≡ first_fault (page_of m p here t) s at
-    page_parts l r e =
-        piece_past s (command 20 t) _ at (at + 2) r k 2 refl is-k passes refl
-        (piece_past s (nine m here) _ (at + 2) (at + 11) r b 9 (nine_length m here) is_b (omega arith) (omega arith) e)

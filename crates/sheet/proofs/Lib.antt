@@ -1,8 +1,8 @@
 pub mod Faults
 pub mod Commands
+pub mod Testing
 pub mod Places
 pub mod Sizes
 pub mod Numbers
 pub mod Naming
-pub mod Pages
 pub mod Forming

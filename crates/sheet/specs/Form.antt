@@ -1,5 +1,5 @@
 -- The form of a sheet: one test for each byte (document 01, "The sheet", and "Check", refusal 12; document 02, note 2).
-use Rattle.std.specs.Prelude.{ℕ, ◌+◌, ◌-◌, ◌*◌, ◌^◌, Bool, true, ◌||◌, cond, List, [], ◌∷◌, ◌++◌, eqb, ltb, get_or}
+use Rattle.std.specs.Prelude.{ℕ, ◌+◌, ◌-◌, ◌*◌, ◌^◌, Bool, true, ◌||◌, cond, List, [], ◌∷◌, ◌++◌, eqb, ltb, length, get_or, ⊤, Ok, Err, Result}
 use Rattle.matroid.specs.Set.{Set, size}
 use Rattle.matroid.specs.Cuts.{each}
 
@@ -85,3 +85,7 @@ form m n present = head m n ++ (each m (give n) ++ (bound m ++ (each n (page m (
 unfoldable pub first_fault : List Test → List ℕ → ℕ → ℕ
 first_fault [] sheet at = at
 first_fault (test ∷ tests) sheet at = cond (test (get_or sheet at 0)) (first_fault tests sheet (at + 1)) at
+
+-- what the tests come to from an offset on: it fails with the offset of the first byte that is not allowed
+abbrev pub tested : List Test → List ℕ → ℕ → Result ⊤ ℕ
+tested tests sheet at = cond (ltb (first_fault tests sheet at) (at + length tests)) (Err (first_fault tests sheet at)) (Ok tt)

@@ -1,4 +1,5 @@
 // The sheet as bytes: its length, its fields and its form.
+// Kept (point 5): m ≤ 64 and n ≤ 12 stand in each contract, as in `kinds`: the public functions take numbers.
 #![tactic(auto)]
 
 ghost use Rattle.std.specs.Prelude.{◌≡◌, ◌+◌, ◌*◌, ◌≤◌, length};

@@ -1,73 +1,32 @@
 // The pages of the teams that are away: their share, set and PARTs are 0.
-ghost use Rattle.std.specs.Prelude.{◌≤◌};
+ghost use Rattle.std.specs.Prelude.{◌≤◌, ◌<◌};
 
 use crate::exhaust::Found;
-use crate::stated;
+use crate::stated::page_start;
 use command::decode::byte_at;
-use std::num::wrapping_add_u64;
 
-// How many of the nine bytes of a share and a set are not 0.
-fn share_and_set(sheet: &[u8], at: usize) -> u64
-    requires { at ≤ 3000 }
-{
-    let mut count: u64 = 0;
-    for k in 0..9usize {
-        if byte_at(sheet, at + k) != 0 {
-            count = wrapping_add_u64(count, 1);
-        }
-    }
-    count
-}
-
-// How many of m PARTs name a part other than 0.
-fn parts(sheet: &[u8], at: usize, m: usize) -> u64
-    requires { (at ≤ 3000) × (m ≤ 5) }
-{
-    let mut count: u64 = 0;
-    for g in 0..m {
-        if byte_at(sheet, at + 3 * g + 2) != 0 {
-            count = wrapping_add_u64(count, 1);
-        }
-    }
-    count
-}
-
-// How many bytes that a page states are not 0.
+// How many bytes that a page of m PARTs states are not 0: of the nine of a share and a set, and of the parts that the PARTs name.
 fn page(sheet: &[u8], at: usize, m: usize) -> u64
     requires { (at ≤ 2700) × (m ≤ 5) }
 {
-    wrapping_add_u64(share_and_set(sheet, at + 2), parts(sheet, at + 11, m))
+    let wrong = |k| byte_at(sheet, at + k) != 0;
+    let share_and_set = (2..11).filter(|k| wrong(*k)).count();
+    let parts = (0..m).filter(|g| wrong(13 + 3 * *g)).count();
+    (share_and_set as u64).wrapping_add(parts as u64)
 }
 
 // How many bytes that the teams away state are not 0.
-pub fn not_zero(f: Found, sheet: &[u8]) -> u64
-    requires { (f.m ≤ 5) × (f.n ≤ 3) }
-{
-    let m = f.m;
-    let n = f.n;
-    let here = f.here;
-    let mut count: u64 = 0;
-    for t in 0..n {
-        if !here[t] {
-            count = wrapping_add_u64(count, page(sheet, stated::page_start(m, t), m));
-        }
-    }
-    count
+pub fn not_zero(f: &Found, sheet: &[u8]) -> u64 {
+    (0..f.n).filter(|t| !f.seats[*t].here).fold(
+        0,
+        |count, t| count.wrapping_add(page(sheet, page_start(f.m, t), f.m)),
+    )
 }
 
 // Whether an offset lies on the page of a team that is away.
-pub fn covers(f: Found, at: usize) -> bool
-    requires { (f.m ≤ 5) × (f.n ≤ 3) }
-{
-    let m = f.m;
-    let n = f.n;
-    let here = f.here;
-    for t in 0..n {
-        let start = stated::page_start(m, t);
-        let end = stated::page_start(m, t + 1);
-        if !here[t] && start <= at && at < end {
-            return true;
-        }
-    }
-    false
+pub fn covers(f: &Found, at: usize) -> bool {
+    (0..f.n).any(|t| {
+        let page = page_start(f.m, t)..page_start(f.m, t + 1);
+        !f.seats[t].here && page.contains(&at)
+    })
 }

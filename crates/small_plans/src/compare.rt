@@ -1,126 +1,92 @@
 // What a sheet states beside what the search finds.
-ghost use Rattle.std.specs.Prelude.{◌≤◌};
-
 use crate::counts::Counts;
-use crate::exhaust::Found;
+use crate::exhaust::{Found, Lot, Seat};
 use crate::stated::Stated;
-use crate::{away, counts, cuts, exhaust, present, stated};
-use std::num::wrapping_add_u64;
+use crate::{away, cuts, exhaust, stated};
 
-// How many of four bundles are worth less than their size.
-fn dependent(table: [u8; 128], bundles: [u64; 4]) -> u64 {
-    let mut count: u64 = 0;
-    for t in 0..4usize {
-        let size = sets::size(bundles[t]) as u64;
-        if exhaust::worth_in(table, t, bundles[t]) != size {
-            count = wrapping_add_u64(count, 1);
-        }
-    }
-    count
+// How many bundles are worth less than their size.
+fn dependent(seats: &[Seat; 4], lots: &[Lot; 4]) -> u64 {
+    seats
+        .iter()
+        .zip(lots)
+        .filter(|(seat, lot)| seat.worth(lot.bundle) != sets::size(lot.bundle) as u64)
+        .count() as u64
 }
 
-// How many of four shares are not what they should be.
-pub fn different(shares: [u64; 4], best: [u64; 4]) -> u64 {
-    let mut count: u64 = 0;
-    for t in 0..4usize {
-        if shares[t] != best[t] {
-            count = wrapping_add_u64(count, 1);
-        }
-    }
-    count
+// How many shares are not what they should be.
+pub fn different(lots: &[Lot; 4], best: &[Lot; 4]) -> u64 {
+    lots.iter()
+        .zip(best)
+        .filter(|(lot, best)| lot.share != best.share)
+        .count() as u64
 }
 
-// How many of four teams hold less than their share.
-fn short(bundles: [u64; 4], shares: [u64; 4]) -> u64 {
-    let mut count: u64 = 0;
-    for t in 0..4usize {
-        let size = sets::size(bundles[t]) as u64;
-        if size < shares[t] {
-            count = wrapping_add_u64(count, 1);
-        }
-    }
-    count
-}
-
-// The sum of four numbers.
-fn sum(numbers: [u64; 4]) -> u64 {
-    let mut all: u64 = 0;
-    for t in 0..4usize {
-        all = wrapping_add_u64(all, numbers[t]);
-    }
-    all
-}
-
-// The differences between a sheet and the search, counted.
-fn differences(f: Found, s: Stated) -> Counts {
-    let table = f.table;
-    let best = f.shares;
-    let bundles = s.bundles;
-    let shares = s.shares;
-    let mut c = counts::none();
-    c.totals = s.total;
-    c.shares = sum(shares);
-    c.wrong_totals = counts::one(s.total != f.total || s.total != exhaust::total(table, bundles));
-    c.dependent = dependent(table, bundles);
-    c.wrong_shares = different(shares, best);
-    c.short = short(bundles, shares);
-    c
+// How many teams hold less than their share.
+fn short(lots: &[Lot; 4]) -> u64 {
+    lots.iter().filter(|lot| lot.is_short()).count() as u64
 }
 
 // What a sheet of a plan adds to the counts.
-pub fn of_sheet(f: Found, sheet: &[u8]) -> Counts
-    requires { (f.m ≤ 5) × (f.n ≤ 3) }
-{
-    let s = stated::read(sheet, f.m, f.n);
-    let shares = s.shares;
-    let mut c = differences(f, s);
-    c.wrong_cuts = cuts::wrong(f, sheet, shares);
-    c.away_bytes = away::not_zero(f, sheet);
-    c
+pub fn of_sheet(f: &Found, sheet: &[u8]) -> Counts {
+    let s = stated::read(f, sheet);
+    let bundles = s.lots.map(|lot| lot.bundle);
+    let total = exhaust::total(&f.seats, &bundles);
+    Counts {
+        totals: s.total,
+        shares: s
+            .lots
+            .iter()
+            .fold(0, |sum, lot| lot.share.wrapping_add(sum)),
+        wrong_totals: u64::from(s.total != f.total || s.total != total),
+        dependent: dependent(&f.seats, &s.lots),
+        wrong_shares: different(&s.lots, &f.lots),
+        wrong_cuts: cuts::wrong(f, sheet, &s),
+        away_bytes: away::not_zero(f, sheet),
+        short: short(&s.lots),
+        ..Counts::default()
+    }
 }
 
 // Whether the search confirms all that a sheet states.
-pub fn confirms(f: Found, sheet: &[u8]) -> bool
-    requires { (f.m ≤ 5) × (f.n ≤ 3) }
-{
+pub fn confirms(f: &Found, sheet: &[u8]) -> bool {
     let c = of_sheet(f, sheet);
     let division = c.wrong_totals == 0 && c.dependent == 0 && c.short == 0;
     division && c.wrong_shares == 0 && c.wrong_cuts == 0 && c.away_bytes == 0
 }
 
-// v(all) divided by p, for each team that is present.
-fn plain_shares(table: [u8; 128], here: [bool; 4], p: usize) -> [u64; 4]
-    requires { p ≤ 3 }
+// v(all) divided by p, for a team that is present.
+fn plain_share(seat: &Seat, p: usize) -> u64 {
+    if seat.here && p > 0 {
+        seat.worth(31) / (p as u64)
+    } else {
+        0
+    }
+}
+
+// How many shares that the search finds are others than those of a rule.
+fn other<F: Fn(&Seat) -> u64>(f: &Found, rule: F) -> u64
+    requires { F.IsAlwaysCallable rule }
 {
-    let mut plain = [0u64; 4];
-    if p == 0 {
-        return plain;
-    }
-    for t in 0..4usize {
-        if here[t] {
-            plain[t] = exhaust::worth_in(table, t, 31) / (p as u64);
-        }
-    }
-    plain
+    f.seats
+        .iter()
+        .zip(&f.lots)
+        .filter(|(seat, lot)| lot.share != rule(*seat))
+        .count() as u64
 }
 
 // What a plan adds to the counts, whatever its sheet.
-pub fn of_plan(f: Found) -> Counts
-    requires { f.n ≤ 3 }
-{
-    let here = f.here;
-    let table = f.table;
-    let shares = f.shares;
-    let bundles = f.bundles;
-    let p = present::count(here, f.n);
-    let mut c = counts::none();
-    c.plans = 1;
-    c.plans_away = counts::one(p < f.n);
-    c.plans_all_away = counts::one(p == 0);
-    c.teams = f.n as u64;
-    c.away = (f.n - p) as u64;
-    c.short_best = counts::one(short(bundles, shares) > 0);
-    c.apart = different(shares, plain_shares(table, here, p));
-    c.raised = different(shares, exhaust::best_shares(table, here, f.n));
-    c
+pub fn of_plan(f: &Found) -> Counts {
+    let p = f.present();
+    let away = f.seats.iter().take(f.n).filter(|seat| !seat.here).count();
+    Counts {
+        plans: 1,
+        plans_away: u64::from(away > 0),
+        plans_all_away: u64::from(p == 0),
+        teams: f.n as u64,
+        away: away as u64,
+        short_best: u64::from(short(&f.lots) > 0),
+        apart: other(f, |seat| plain_share(seat, p)),
+        raised: other(f, |seat| seat.share(f.n)),
+        ..Counts::default()
+    }
 }

@@ -1,11 +1,10 @@
 // Counts over plans.
-use lines::print;
 use std::io;
-use std::num::wrapping_add_u64;
+use std::ops::{Add, AddAssign};
 
 // What is counted. In the first group are the plans, in the second their loan days, in the third their glued instruments, in the fourth the sheets
 // that Build writes, in the fifth sheets with one byte changed.
-#[derive(Clone, Copy)]
+#[derive(Clone, Copy, Default)]
 pub struct Counts {
     pub plans: u64,
     // plans with a team away, and with no team present
@@ -69,151 +68,116 @@ pub struct Counts {
     pub changed_wrong: u64,
 }
 
-// Nothing counted.
-pub fn none() -> Counts {
-    Counts {
-        plans: 0,
-        plans_away: 0,
-        plans_all_away: 0,
-        teams: 0,
-        away: 0,
-        short_best: 0,
-        apart: 0,
-        raised: 0,
-        barred: 0,
-        level: 0,
-        near: 0,
-        lower_shares: 0,
-        lower_totals: 0,
-        fallen: 0,
-        fallen_wrong: 0,
-        glued: 0,
-        gained_shares: 0,
-        gained_totals: 0,
-        accepted: 0,
-        totals: 0,
-        shares: 0,
-        wrong_totals: 0,
-        dependent: 0,
-        wrong_shares: 0,
-        wrong_cuts: 0,
-        away_bytes: 0,
-        short: 0,
-        beyond: 0,
-        changed: 0,
-        changed_away: 0,
-        changed_accepted: 0,
-        changed_wrong: 0,
-    }
-}
-
-// 1 where something is so.
-pub fn one(so: bool) -> u64 {
-    if so { 1 } else { 0 }
-}
-
 // The counts of two lots together.
-pub fn plus(a: Counts, b: Counts) -> Counts {
-    Counts {
-        plans: wrapping_add_u64(a.plans, b.plans),
-        plans_away: wrapping_add_u64(a.plans_away, b.plans_away),
-        plans_all_away: wrapping_add_u64(a.plans_all_away, b.plans_all_away),
-        teams: wrapping_add_u64(a.teams, b.teams),
-        away: wrapping_add_u64(a.away, b.away),
-        short_best: wrapping_add_u64(a.short_best, b.short_best),
-        apart: wrapping_add_u64(a.apart, b.apart),
-        raised: wrapping_add_u64(a.raised, b.raised),
-        barred: wrapping_add_u64(a.barred, b.barred),
-        level: wrapping_add_u64(a.level, b.level),
-        near: wrapping_add_u64(a.near, b.near),
-        lower_shares: wrapping_add_u64(a.lower_shares, b.lower_shares),
-        lower_totals: wrapping_add_u64(a.lower_totals, b.lower_totals),
-        fallen: wrapping_add_u64(a.fallen, b.fallen),
-        fallen_wrong: wrapping_add_u64(a.fallen_wrong, b.fallen_wrong),
-        glued: wrapping_add_u64(a.glued, b.glued),
-        gained_shares: wrapping_add_u64(a.gained_shares, b.gained_shares),
-        gained_totals: wrapping_add_u64(a.gained_totals, b.gained_totals),
-        accepted: wrapping_add_u64(a.accepted, b.accepted),
-        totals: wrapping_add_u64(a.totals, b.totals),
-        shares: wrapping_add_u64(a.shares, b.shares),
-        wrong_totals: wrapping_add_u64(a.wrong_totals, b.wrong_totals),
-        dependent: wrapping_add_u64(a.dependent, b.dependent),
-        wrong_shares: wrapping_add_u64(a.wrong_shares, b.wrong_shares),
-        wrong_cuts: wrapping_add_u64(a.wrong_cuts, b.wrong_cuts),
-        away_bytes: wrapping_add_u64(a.away_bytes, b.away_bytes),
-        short: wrapping_add_u64(a.short, b.short),
-        beyond: wrapping_add_u64(a.beyond, b.beyond),
-        changed: wrapping_add_u64(a.changed, b.changed),
-        changed_away: wrapping_add_u64(a.changed_away, b.changed_away),
-        changed_accepted: wrapping_add_u64(a.changed_accepted, b.changed_accepted),
-        changed_wrong: wrapping_add_u64(a.changed_wrong, b.changed_wrong),
+impl Add for Counts {
+    type Output = Counts;
+
+    fn add(self, other: Counts) -> Counts {
+        Counts {
+            plans: self.plans.wrapping_add(other.plans),
+            plans_away: self.plans_away.wrapping_add(other.plans_away),
+            plans_all_away: self.plans_all_away.wrapping_add(other.plans_all_away),
+            teams: self.teams.wrapping_add(other.teams),
+            away: self.away.wrapping_add(other.away),
+            short_best: self.short_best.wrapping_add(other.short_best),
+            apart: self.apart.wrapping_add(other.apart),
+            raised: self.raised.wrapping_add(other.raised),
+            barred: self.barred.wrapping_add(other.barred),
+            level: self.level.wrapping_add(other.level),
+            near: self.near.wrapping_add(other.near),
+            lower_shares: self.lower_shares.wrapping_add(other.lower_shares),
+            lower_totals: self.lower_totals.wrapping_add(other.lower_totals),
+            fallen: self.fallen.wrapping_add(other.fallen),
+            fallen_wrong: self.fallen_wrong.wrapping_add(other.fallen_wrong),
+            glued: self.glued.wrapping_add(other.glued),
+            gained_shares: self.gained_shares.wrapping_add(other.gained_shares),
+            gained_totals: self.gained_totals.wrapping_add(other.gained_totals),
+            accepted: self.accepted.wrapping_add(other.accepted),
+            totals: self.totals.wrapping_add(other.totals),
+            shares: self.shares.wrapping_add(other.shares),
+            wrong_totals: self.wrong_totals.wrapping_add(other.wrong_totals),
+            dependent: self.dependent.wrapping_add(other.dependent),
+            wrong_shares: self.wrong_shares.wrapping_add(other.wrong_shares),
+            wrong_cuts: self.wrong_cuts.wrapping_add(other.wrong_cuts),
+            away_bytes: self.away_bytes.wrapping_add(other.away_bytes),
+            short: self.short.wrapping_add(other.short),
+            beyond: self.beyond.wrapping_add(other.beyond),
+            changed: self.changed.wrapping_add(other.changed),
+            changed_away: self.changed_away.wrapping_add(other.changed_away),
+            changed_accepted: self.changed_accepted.wrapping_add(other.changed_accepted),
+            changed_wrong: self.changed_wrong.wrapping_add(other.changed_wrong),
+        }
     }
 }
 
-// The plans, on two lines.
-fn show_plans(rt: &impl Print, c: Counts) -> io::Result<()> {
-    print::marked(rt, b"  plans ", c.plans)?;
-    print::marked(rt, b", with a team away ", c.plans_away)?;
-    print::marked(rt, b", with every team away ", c.plans_all_away)?;
-    print::marked(rt, b"; teams ", c.teams)?;
-    print::marked(rt, b", away ", c.away)?;
-    print::marked(rt, b"\n  a best division short of a share ", c.short_best)?;
-    print::marked(rt, b"; shares other than v(all) / p ", c.apart)?;
-    print::marked(rt, b", other than among n ", c.raised)?;
-    print::text(rt, b"\n")
+impl AddAssign for Counts {
+    fn add_assign(&mut self, other: Counts) {
+        *self = *self + other;
+    }
 }
 
-// The sheets that Build writes, on a line.
-fn show_sheets(rt: &impl Print, c: Counts) -> io::Result<()> {
-    print::marked(rt, b"  sheets accepted ", c.accepted)?;
-    print::marked(rt, b", totals ", c.totals)?;
-    print::marked(rt, b", shares ", c.shares)?;
-    print::marked(rt, b"; differences: totals ", c.wrong_totals)?;
-    print::marked(rt, b", bundles ", c.dependent)?;
-    print::marked(rt, b", shares ", c.wrong_shares)?;
-    print::marked(rt, b", cuts ", c.wrong_cuts)?;
-    print::marked(rt, b", bytes of teams away ", c.away_bytes)?;
-    print::marked(rt, b", short teams ", c.short)?;
-    print::marked(rt, b", bytes beyond ", c.beyond)?;
-    print::text(rt, b"\n")
-}
+impl Counts {
+    // The plans, on two lines.
+    fn show_plans(&self, rt: &impl Print) -> io::Result<()> {
+        println!(rt;
+            "  plans {}, with a team away {}, with every team away {}; teams {}, away {}",
+            self.plans, self.plans_away, self.plans_all_away, self.teams, self.away
+        )?;
+        println!(rt;
+            "  a best division short of a share {}; shares other than v(all) / p {}, other than among n {}",
+            self.short_best, self.apart, self.raised
+        )
+    }
 
-// The changed sheets, on a line.
-fn show_changed(rt: &impl Print, c: Counts) -> io::Result<()> {
-    print::marked(rt, b"  changed sheets ", c.changed)?;
-    print::marked(rt, b", on the page of a team away ", c.changed_away)?;
-    print::marked(rt, b", accepted ", c.changed_accepted)?;
-    print::marked(rt, b", differences ", c.changed_wrong)?;
-    print::text(rt, b"\n")
-}
+    // The sheets that Build writes, on a line.
+    fn show_sheets(&self, rt: &impl Print) -> io::Result<()> {
+        print!(rt;
+            "  sheets accepted {}, totals {}, shares {}; differences: totals {}, bundles {}, shares {}, cuts {}",
+            self.accepted,
+            self.totals,
+            self.shares,
+            self.wrong_totals,
+            self.dependent,
+            self.wrong_shares,
+            self.wrong_cuts
+        )?;
+        println!(rt;
+            ", bytes of teams away {}, short teams {}, bytes beyond {}",
+            self.away_bytes, self.short, self.beyond
+        )
+    }
 
-// The loan days, on a line.
-pub fn show_days(rt: &impl Print, c: Counts) -> io::Result<()> {
-    print::marked(
-        rt,
-        b"  a team and an instrument: out of its days ",
-        c.barred,
-    )?;
-    print::marked(rt, b", by one day ", c.near)?;
-    print::marked(rt, b", within with an equal end ", c.level)?;
-    print::marked(rt, b"; other than without SHELF: shares ", c.lower_shares)?;
-    print::marked(rt, b", totals ", c.lower_totals)?;
-    print::text(rt, b"\n")
-}
+    // The changed sheets, on a line.
+    fn show_changed(&self, rt: &impl Print) -> io::Result<()> {
+        println!(rt;
+            "  changed sheets {}, on the page of a team away {}, accepted {}, differences {}",
+            self.changed, self.changed_away, self.changed_accepted, self.changed_wrong
+        )
+    }
 
-// The glued instruments, on a line.
-pub fn show_glued(rt: &impl Print, c: Counts) -> io::Result<()> {
-    print::marked(rt, b"  plans refused with 18 besides ", c.fallen)?;
-    print::marked(rt, b", differences ", c.fallen_wrong)?;
-    print::marked(rt, b"; glued instruments of the others ", c.glued)?;
-    print::marked(rt, b"; other than without GLUE: shares ", c.gained_shares)?;
-    print::marked(rt, b", totals ", c.gained_totals)?;
-    print::text(rt, b"\n")
-}
+    // The first, the fourth and the fifth group.
+    pub fn show(&self, rt: &impl Print) -> io::Result<()> {
+        self.show_plans(rt)?;
+        self.show_sheets(rt)?;
+        self.show_changed(rt)
+    }
 
-// The other three groups.
-pub fn show(rt: &impl Print, c: Counts) -> io::Result<()> {
-    show_plans(rt, c)?;
-    show_sheets(rt, c)?;
-    show_changed(rt, c)
+    // Those, and the loan days on a line.
+    // Kept (point 2): two texts with other counts in them, which one function would take as its arguments, text and all.
+    pub fn show_lent(&self, rt: &impl Print) -> io::Result<()> {
+        self.show(rt)?;
+        println!(rt;
+            "  a team and an instrument: out of its days {}, by one day {}, within with an equal end {}; other than without SHELF: shares {}, totals {}",
+            self.barred, self.near, self.level, self.lower_shares, self.lower_totals
+        )
+    }
+
+    // The same groups, and the glued instruments on a line.
+    pub fn show_glued(&self, rt: &impl Print) -> io::Result<()> {
+        self.show(rt)?;
+        println!(rt;
+            "  plans refused with 18 besides {}, differences {}; glued instruments of the others {}; other than without GLUE: shares {}, totals {}",
+            self.fallen, self.fallen_wrong, self.glued, self.gained_shares, self.gained_totals
+        )
+    }
 }

@@ -1,204 +1,177 @@
-// The greatest total over all divisions and the best cut over all cuts, by a search through all of them. Worths stand in a table:
-// 32 entries for each of four teams, by set; a team that is not in the plan has zeros.
-ghost use Rattle.std.specs.Prelude.{◌<◌, ◌≤◌};
+// The greatest total over all divisions and the best cut over all cuts, by a search through all of them.
+ghost use Rattle.std.specs.Prelude.{◌≤◌};
 
-use crate::draw::Drawing;
-use crate::{glue, present};
-use rule::glue::Site;
-use std::num::wrapping_add_u64;
+use crate::draw::{Drawing, Member};
+use crate::glue;
+use rule::Independence;
+use std::array;
 
-// What the search finds of a plan of m instruments and n teams: who is present, the table of worths, the greatest total, the bundles of the
-// first division that comes to it, and each team's share.
+// One of four teams: whether it is present, and what each set of five instruments is worth to it. A team that is not in the plan is away, and
+// every set is worth 0 to it.
 #[derive(Clone, Copy)]
+pub struct Seat {
+    pub here: bool,
+    worths: [u64; 32],
+}
+
+const EMPTY: Seat = Seat {
+    here: false,
+    worths: [0; 32],
+};
+
+// What one of four teams holds, and its share.
+#[derive(Clone, Copy)]
+pub struct Lot {
+    pub bundle: u64,
+    pub share: u64,
+}
+
+// What the search finds of a plan of m instruments and n teams: the greatest total, the bundles of the first division that comes to it, and each
+// team's share.
+#[derive(Drop)]
 pub struct Found {
     pub m: usize,
     pub n: usize,
-    pub here: [bool; 4],
-    pub table: [u8; 128],
+    pub seats: [Seat; 4],
     pub total: u64,
-    pub bundles: [u64; 4],
-    pub shares: [u64; 4],
+    pub lots: [Lot; 4],
+    ghost counts: { (m ≤ 5) × (n ≤ 3) },
 }
 
-// A size as a byte, and 255 where it is greater.
-fn as_byte(size: usize) -> u8 {
-    if size < 255 { size as u8 } else { 255 }
+impl Found {
+    // The number p of the teams that are present.
+    pub fn present(&self) -> usize {
+        present(&self.seats)
+    }
 }
 
-// Whether a team finds each set of five instruments independent; one with a member at or above m never is.
-fn independents(s: Site, m: usize) -> [bool; 32]
-    requires { m ≤ 64 }
-{
-    let all = sets::all_below(m);
-    let mut free = [false; 32];
-    for k in 0..32usize {
-        let set = k as u64;
-        if sets::minus(set, all) == 0 {
-            free[k] = rule::glue::independent(s, set);
+impl Lot {
+    // Whether the team holds less than its share.
+    pub fn is_short(&self) -> bool {
+        (sets::size(self.bundle) as u64) < self.share
+    }
+}
+
+// The size of the largest independent part of a set, by which sets of five instruments are independent.
+fn largest(free: &[bool; 32], set: u64) -> u64 {
+    (0..32)
+        .zip(free)
+        .filter(|(part, free)| **free && sets::minus(*part, set) == 0)
+        .map(|(part, _)| sets::size(part) as u64)
+        .max()
+        .unwrap_or(0)
+}
+
+impl Seat {
+    // A team of a plan, by the pool's SHELFs and the GLUEs. A set with a member at or above m is never independent.
+    fn of(d: &Drawing, member: &Member) -> Seat {
+        let site = glue::site(d, member);
+        let all = sets::all_below(d.m);
+        let free = array::from_fn(|k| {
+            let set = k as u64;
+            sets::minus(set, all) == 0 && site.independent(set)
+        });
+        Seat {
+            here: member.team.channels > 0,
+            worths: array::from_fn(|k| largest(&free, k as u64)),
         }
     }
-    free
-}
 
-// The size of the largest independent part of a set.
-fn largest(free: [bool; 32], set: u64) -> usize {
-    let mut most: usize = 0;
-    for k in 0..32usize {
-        let part = k as u64;
-        let size = sets::size(part);
-        let inside = sets::minus(part, set) == 0;
-        if free[k] && inside && size > most {
-            most = size;
+    // What a set is worth to the team.
+    pub fn worth(&self, set: u64) -> u64 {
+        self.worths[(set % 32) as usize]
+    }
+
+    // What the worst of the first p parts is worth to the team.
+    pub fn least(&self, parts: &[u64; 4], p: usize) -> u64 {
+        parts
+            .iter()
+            .take(p)
+            .map(|part| self.worth(*part))
+            .min()
+            .unwrap_or(255)
+    }
+
+    // The team's share among p: the best of all cuts into p parts, by the worst part. A team that is away has share 0.
+    pub fn share(&self, p: usize) -> u64 {
+        if !self.here || p == 0 {
+            return 0;
         }
-    }
-    most
-}
-
-// Puts the worths of team t in the table.
-fn put_worths(table: &mut [u8; 128], t: usize, s: Site, m: usize)
-    requires { (t < 4) × (m ≤ 64) }
-{
-    let free = independents(s, m);
-    for k in 0..32usize {
-        table[t * 32 + k] = as_byte(largest(free, k as u64));
+        (0..243)
+            .map(|number| self.least(&parts(number, p), p))
+            .max()
+            .unwrap_or(0)
     }
 }
 
-// What each set of five instruments is worth to each team, by the pool's SHELFs and the GLUEs.
-fn worths(d: Drawing) -> [u8; 128]
-    requires { (d.m ≤ 5) × (d.n ≤ 3) }
-{
-    let m = d.m;
-    let n = d.n;
-    let mut table = [0u8; 128];
-    for t in 0..n {
-        put_worths(&mut table, t, glue::site(d, t), m);
+// The seats of the teams of a plan.
+fn seats(d: &Drawing) -> [Seat; 4] {
+    let mut seats = [EMPTY; 4];
+    for (seat, member) in seats.iter_mut().zip(d.teams()) {
+        *seat = Seat::of(d, member);
     }
-    table
+    seats
 }
 
-// A byte as a number.
-fn wide(byte: u8) -> u64
-    ensures { result ≤ 255 }
-{
-    byte as u64
+// How many teams are present: those with channels above 0.
+fn present(seats: &[Seat; 4]) -> usize {
+    seats.iter().filter(|seat| seat.here).count()
 }
 
-// What a set is worth to team t.
-pub fn worth_in(table: [u8; 128], t: usize, set: u64) -> u64
-    ensures { result ≤ 255 }
-{
-    let k = t % 4 * 32 + (set % 32) as usize;
-    wide(table[k])
-}
-
-// The lowest digit of a number, to a base of up to 4.
-fn digit(number: usize, base: usize) -> usize
-    requires { (1 ≤ base) × (base ≤ 4) }
-    ensures { result < 4 }
-{
-    number % base
-}
-
-// The parts that a number cuts five instruments into: its digit g, to the base, is the part of instrument g.
+// The parts that a number cuts five instruments into: its digit g, to a base of up to 4, is the part of instrument g.
 fn parts(number: usize, base: usize) -> [u64; 4]
-    requires { (1 ≤ base) × (base ≤ 4) }
+    requires { 1 ≤ base }
 {
-    let mut part = [0u64; 4];
+    let mut parts = [0; 4];
     let mut left = number;
-    for g in 0..5usize {
-        let p = digit(left, base);
-        part[p] = sets::with(part[p], g);
-        left = left / base;
+    for g in 0..5 {
+        if let Some(part) = parts.get_mut(left % base) {
+            *part = sets::with(*part, g);
+        }
+        left /= base;
     }
-    part
+    parts
 }
 
 // The sum of the worths of four bundles.
-pub fn total(table: [u8; 128], bundle: [u64; 4]) -> u64 {
-    let mut sum: u64 = 0;
-    for t in 0..4usize {
-        sum = wrapping_add_u64(sum, worth_in(table, t, bundle[t]));
-    }
-    sum
+pub fn total(seats: &[Seat; 4], bundles: &[u64; 4]) -> u64 {
+    seats.iter().zip(bundles).fold(
+        0,
+        |sum, (seat, bundle)| sum.wrapping_add(seat.worth(*bundle)),
+    )
 }
 
-// What the worst of the first p parts is worth to team t.
-pub fn least(table: [u8; 128], t: usize, part: [u64; 4], p: usize) -> u64
-    requires { p ≤ 3 }
-{
-    let mut low: u64 = 255;
-    for k in 0..p {
-        let worth = worth_in(table, t, part[k]);
-        if worth < low {
-            low = worth;
-        }
-    }
-    low
-}
-
-// The number of the first division among n teams and the pool that has the greatest total.
-fn best_division(table: [u8; 128], n: usize) -> usize
+// The first division among n teams and the pool that has the greatest total.
+fn best_division(seats: &[Seat; 4], n: usize) -> [u64; 4]
     requires { n ≤ 3 }
 {
-    let mut best: usize = 0;
-    let mut most: u64 = 0;
-    for number in 0..1024usize {
-        let sum = total(table, parts(number, n + 1));
+    let mut best = parts(0, n + 1);
+    let mut most = 0;
+    // Kept (point 3): the first of the greatest counts, and max_by_key answers the last.
+    for number in 0..1024 {
+        let bundles = parts(number, n + 1);
+        let sum = total(seats, &bundles);
         if sum > most {
             most = sum;
-            best = number;
+            best = bundles;
         }
     }
     best
 }
 
-// The share of team t among p: the best of all cuts into p parts, by the worst part.
-fn best_share(table: [u8; 128], t: usize, p: usize) -> u64
-    requires { (1 ≤ p) × (p ≤ 3) }
-{
-    let mut most: u64 = 0;
-    for number in 0..243usize {
-        let low = least(table, t, parts(number, p), p);
-        if low > most {
-            most = low;
-        }
-    }
-    most
-}
-
-// The share of each team that is present, among p; a team that is away has share 0.
-pub fn best_shares(table: [u8; 128], here: [bool; 4], p: usize) -> [u64; 4]
-    requires { p ≤ 3 }
-{
-    let mut shares = [0u64; 4];
-    if p == 0 {
-        return shares;
-    }
-    for t in 0..4usize {
-        if here[t] {
-            shares[t] = best_share(table, t, p);
-        }
-    }
-    shares
-}
-
 // Searches through all divisions and all cuts of a plan.
-pub fn search(d: Drawing) -> Found
-    requires { (d.m ≤ 5) × (1 ≤ d.n) × (d.n ≤ 3) }
-    ensures { (result.m ≤ 5) × (result.n ≤ 3) }
-{
-    let teams = d.teams;
-    let here = present::among(teams, d.n);
-    let table = worths(d);
-    let bundles = parts(best_division(table, d.n), d.n + 1);
+pub fn search(d: &Drawing) -> Found {
+    let seats = seats(d);
+    let bundles = best_division(&seats, d.n);
+    let p = present(&seats);
     Found {
         m: d.m,
         n: d.n,
-        here,
-        table,
-        total: total(table, bundles),
-        bundles,
-        shares: best_shares(table, here, present::count(here, d.n)),
+        seats,
+        total: total(&seats, &bundles),
+        lots: array::from_fn(|t| Lot {
+            bundle: bundles[t],
+            share: seats[t].share(p),
+        }),
     }
 }

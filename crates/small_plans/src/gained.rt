@@ -1,43 +1,42 @@
 // Plans with glued instruments: those that are refused with 18, and what the others gain beside the same plans with no GLUE.
-ghost use Rattle.std.specs.Prelude.{◌≤◌};
-
 use crate::counts::Counts;
-use crate::draw::Drawing;
-use crate::{compare, counts, exhaust, glue, trial};
+use crate::draw::{Drawing, Member};
+use crate::{compare, exhaust, glue, trial};
+use rule::random::Random;
+use std::alloc::{AllocError, Global};
 
 // What the glued instruments of a plan add to the counts, beside the same plan with no GLUE.
-fn beside(d: Drawing) -> Counts
-    requires { (d.m ≤ 5) × (1 ≤ d.n) × (d.n ≤ 3) }
-{
-    let mut free = d;
-    free.glued = [0u64; 3];
+fn beside(d: &Drawing) -> Counts {
+    let free = Drawing {
+        m: d.m,
+        n: d.n,
+        pool: d.pool,
+        members: d.members.map(|member| Member { glued: 0, ..member }),
+    };
     let f = exhaust::search(d);
-    let g = exhaust::search(free);
-    let shares = f.shares;
-    let others = g.shares;
-    let mut c = counts::none();
-    c.glued = sets::size(glue::anyone(d)) as u64;
-    c.gained_shares = compare::different(shares, others);
-    c.gained_totals = counts::one(f.total != g.total);
-    c
+    let g = exhaust::search(&free);
+    Counts {
+        glued: sets::size(glue::anyone(d)) as u64,
+        gained_shares: compare::different(&f.lots, &g.lots),
+        gained_totals: u64::from(f.total != g.total),
+        ..Counts::default()
+    }
 }
 
 // What a plan that is to be refused with 18 adds to the counts.
-fn fallen(d: Drawing) -> Counts
-    requires { (d.m ≤ 5) × (1 ≤ d.n) × (d.n ≤ 3) }
-{
-    let mut c = counts::none();
-    c.fallen = 1;
-    c.fallen_wrong = counts::one(!trial::refused(d));
-    c
+fn fallen(alloc: Global, d: &Drawing) -> Result<Counts, AllocError> {
+    Ok(Counts {
+        fallen: 1,
+        fallen_wrong: u64::from(!trial::refused(alloc, d)?),
+        ..Counts::default()
+    })
 }
 
 // The counts of one drawn plan with glued instruments.
-pub fn of_plan(d: Drawing) -> Counts
-    requires { (d.m ≤ 5) × (1 ≤ d.n) × (d.n ≤ 3) }
-{
-    if !glue::all_stand(d) {
-        return fallen(d);
+pub fn of_plan(alloc: Global, d: &Drawing, random: Random) -> Result<Counts, AllocError> {
+    if glue::all_stand(d) {
+        Ok(trial::run(alloc, d, random)? + beside(d))
+    } else {
+        fallen(alloc, d)
     }
-    counts::plus(trial::run(d), beside(d))
 }

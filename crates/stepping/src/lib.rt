@@ -6,15 +6,12 @@ use std::io;
 
 mod counts;
 mod moves;
-mod numbers;
-mod runs;
 mod showing;
 mod starting;
 mod steps;
 
 // Answers a case: what each step hands back.
 pub fn answer(rt: &impl Print, line: &[u8]) -> io::Result<()> {
-    let end = lines::find(line, 0, b';');
-    let start = starting::read(&line[0..end]);
-    steps::answer(rt, start, lines::after(line, b';'))
+    let (start, steps) = lines::split(line, b';');
+    steps::answer(rt, starting::read(start), steps)
 }

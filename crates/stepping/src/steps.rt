@@ -2,9 +2,9 @@
 ghost use Rattle.std.specs.Prelude.{IfOk};
 ghost use Rattle.holding.specs.Count.{Right};
 
-use crate::{moves, numbers, showing};
+use crate::{moves, showing};
 use holding::Holding;
-use lines::print;
+use lines::{pieces, print};
 use std::io;
 
 // What a step hands back.
@@ -12,33 +12,26 @@ fn carried_out(rt: &impl Print, h: Holding, step: &[u8]) -> io::Result<Holding>
     requires { Right h }
     ensures { IfOk result (λ h. Right h) }
 {
-    let verb = lines::word(step);
     let operands = lines::rest(step);
-    if lines::same(verb, b"give") {
-        return Ok(h.give(
-            numbers::read(operands),
-            numbers::read(lines::rest(operands)),
-        ));
+    let number = lines::number_or_max(operands);
+    match lines::word(step) {
+        b"give" => Ok(h.give(number, lines::number_or_max(lines::rest(operands)))),
+        b"return" => Ok(h.give_back(number)),
+        b"chain" => Ok(h.chain(moves::read(operands))),
+        verb => {
+            print::unknown(rt, verb)?;
+            print!(rt; " ")?;
+            Ok(h)
+        }
     }
-    if lines::same(verb, b"return") {
-        return Ok(h.give_back(numbers::read(operands)));
-    }
-    if lines::same(verb, b"chain") {
-        return Ok(h.chain(moves::read(operands)));
-    }
-    print::text(rt, b"UNKNOWN ")?;
-    print::text(rt, verb)?;
-    print::text(rt, b" ")?;
-    Ok(h)
 }
 
 // Carries out a step that spaces may stand before, and prints the answer.
-fn perform(rt: &impl Print, h: Holding, text: &[u8]) -> io::Result<Holding>
+fn perform(rt: &impl Print, h: Holding, step: &[u8]) -> io::Result<Holding>
     requires { Right h }
     ensures { IfOk result (λ h. Right h) }
 {
-    let from = lines::skip(text, 0, b' ');
-    let next = carried_out(rt, h, &text[from..])?;
+    let next = carried_out(rt, h, lines::trimmed(step))?;
     showing::answer(rt, h, next)?;
     Ok(next)
 }
@@ -48,14 +41,11 @@ pub fn answer(rt: &impl Print, start: Holding, text: &[u8]) -> io::Result<()>
     requires { Right start }
 {
     let mut h = start;
-    let mut at: usize = 0;
-    while at < text.len() {
-        let end = lines::find(text, at, b';');
-        if at > 0 {
-            print::text(rt, b"; ")?;
+    for (k, step) in pieces::of(text, b';').enumerate() {
+        if k > 0 {
+            print!(rt; "; ")?;
         }
-        h = perform(rt, h, &text[at..end])?;
-        at = end + 1;
+        h = perform(rt, h, step)?;
     }
     Ok(())
 }

@@ -4,12 +4,18 @@
 ghost use Rattle.std.specs.Prelude.{◌≡◌};
 ghost use Rattle.team.specs.Team.{blank_team};
 
+pub use kind::{Kind, NoKind};
+
+mod kind;
+
 // How many joints there are: a SPAN names two of 0 to 39.
 pub const JOINTS: usize = 40;
 
 // A team's kind (the byte that opens it) and operands. 255 stands wherever the file names nothing.
+// Kept (points 1, 6): a table for each operand, side by side, 255 for none, since the theorems on a reading (`Valid`, `changed_team`) and the tests name each.
 #[derive(Clone, Copy)]
 pub struct Team {
+    // Kept (point 1): a byte, since a reading shows 255 here where the file names nothing (`blank_team`) and 0 where it is refused (`refused` of plan).
     pub kind: u8,
     pub channels: u8,
     // the cap of each class

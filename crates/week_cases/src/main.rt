@@ -3,11 +3,9 @@
 // each also after `room SIZE`.
 #![tactic(auto)]
 
-use builder::Built;
-use lines::{input, print};
+use lines::answers;
 use std::io;
 
-mod numbers;
 mod room;
 mod sheets;
 mod writing;
@@ -16,47 +14,21 @@ mod writing;
 fn text(rt: &impl Print, case: &[u8]) -> io::Result<()> {
     let mut space = [0u8; 512];
     match writing::write(case, &mut space) {
-        Built::Wrote(long) => print::text(rt, lines::front(&space, long)),
-        Built::Refused(number, place) => {
-            print::refusal(rt, number, place)?;
-            print::text(rt, b"\n")
-        }
+        Ok(long) => rt.write_all(lines::front(&space, long)),
+        Err(refusal) => println!(rt; "{refusal}"),
     }
 }
 
 // Answers a line that is a case.
-fn perform(rt: &impl Print, line: &[u8]) -> io::Result<()> {
-    if lines::same(lines::word(line), b"room") {
-        room::answer(rt, lines::rest(line))
-    } else {
-        text(rt, line)
-    }
-}
-
-// Answers a line.
 fn answer(rt: &impl Print, line: &[u8]) -> io::Result<()> {
-    if lines::is_note(line) {
-        print::text(rt, line)?;
-        print::text(rt, b"\n")
-    } else {
-        perform(rt, line)
+    match lines::word(line) {
+        b"room" => room::answer(rt, lines::rest(line)),
+        _ => text(rt, line),
     }
-}
-
-// Answers each line of a text.
-fn run(rt: &impl Print, text: &[u8]) -> io::Result<()> {
-    let mut at: usize = 0;
-    while at < text.len() {
-        let end = lines::line_end(text, at);
-        answer(rt, &text[at..end])?;
-        at = end + 1;
-    }
-    Ok(())
 }
 
 // Of standard input the first 65,536 bytes are read.
 fn main(rt: HostRuntime) -> io::Result<()> {
     let mut space = [0u8; 65536];
-    let n = input::read_full(&rt, &mut space)?;
-    run(&rt, &space[..n])
+    answers::to_input(&rt, &mut space, |line| answer(&rt, line))
 }

@@ -2,9 +2,11 @@
 // line. An empty line and one that starts with `#` come back as they are; any other line is a verb and its operands.
 #![tactic(auto)]
 
-use lines::{input, print};
+use lines::{answers, print};
+use many::Sort;
 use std::io;
 
+mod beside;
 mod chosen;
 mod defined;
 mod draw;
@@ -13,52 +15,20 @@ mod loan;
 mod many;
 
 // Answers a line that is a verb and its operands.
-fn perform(rt: &impl Print, line: &[u8]) -> io::Result<()> {
-    let verb = lines::word(line);
-    let operands = lines::rest(line);
-    if lines::same(verb, b"many") {
-        return many::answer(rt, operands, many::PLAIN);
-    }
-    if lines::same(verb, b"glued") {
-        return many::answer(rt, operands, many::GLUED);
-    }
-    if lines::same(verb, b"lent") {
-        return many::answer(rt, operands, many::LENT);
-    }
-    if lines::same(verb, b"team") {
-        return chosen::answer(rt, operands);
-    }
-    if lines::same(verb, b"gained") {
-        return gained::answer(rt, operands);
-    }
-    print::text(rt, b"UNKNOWN ")?;
-    print::text(rt, verb)
-}
-
-// Answers a line.
 fn answer(rt: &impl Print, line: &[u8]) -> io::Result<()> {
-    if lines::is_note(line) {
-        print::text(rt, line)?;
-    } else {
-        perform(rt, line)?;
+    let operands = lines::rest(line);
+    match lines::word(line) {
+        b"many" => many::answer(rt, operands, Sort::Plain)?,
+        b"glued" => many::answer(rt, operands, Sort::Glued)?,
+        b"lent" => many::answer(rt, operands, Sort::Lent)?,
+        b"team" => chosen::answer(rt, operands)?,
+        b"gained" => gained::answer(rt, operands)?,
+        verb => print::unknown(rt, verb)?,
     }
-    print::text(rt, b"\n")
-}
-
-// Answers each line of a text.
-fn run(rt: &impl Print, text: &[u8]) -> io::Result<()> {
-    let mut at: usize = 0;
-    while at < text.len() {
-        let end = lines::line_end(text, at);
-        answer(rt, &text[at..end])?;
-        at = end + 1;
-    }
-    Ok(())
+    println!(rt)
 }
 
 // Of standard input the first 65,536 bytes are read.
 fn main(rt: HostRuntime) -> io::Result<()> {
-    let mut space = [0u8; 65536];
-    let n = input::read_full(&rt, &mut space)?;
-    run(&rt, &space[..n])
+    answers::to_input(&rt, &mut [0; 65536], |line| answer(&rt, line))
 }

@@ -1,150 +1,103 @@
 // The verbs `many COUNT SEED ROWS`, `glued COUNT SEED ROWS` and `lent COUNT SEED ROWS`, with a seed from 1 on: that many random cases of a
-// family, worth and gains beside the definition. With `many` every instrument is usable and none is glued; with `glued` both are drawn too; with
-// `lent` loan days are drawn, which say what is usable.
-ghost use Rattle.std.specs.Prelude.{◌<◌, ◌≤◌};
+// family, worth and gains beside the definition.
+ghost use Rattle.std.specs.Prelude.{◌<◌};
 
 use crate::draw::{Case, Family};
 use crate::loan::Ends;
 use crate::{defined, draw, loan};
-use lines::print;
-use rule::glue;
-use std::io;
-use std::num::wrapping_add_u64;
+use lines::bytes;
+use rule::Independence;
+use rule::random::Random;
+use std::{array, io};
 
-// What is drawn besides the team and the set: nothing, usable and glued instruments, or loan days.
-pub const PLAIN: u8 = 0;
-
-pub const GLUED: u8 = 1;
-
-pub const LENT: u8 = 2;
+// What is drawn besides the team and the set: nothing, so that every instrument is usable and none is glued; usable and glued instruments; or
+// loan days, which say what is usable.
+#[derive(Clone, Copy, PartialEq, Eq)]
+pub enum Sort {
+    Plain,
+    Glued,
+    Lent,
+}
 
 // Of the cases so far: the worths added up, the instruments gained, and how many answers differ from the definition's.
-#[derive(Clone, Copy)]
+#[derive(Clone, Copy, Default)]
 struct Tally {
     worth: u64,
     gains: u64,
     differences: u64,
 }
 
-// The count of differences after one more answer: it grows where the definition says another.
-fn counted(differences: u64, answer: u64, right: u64) -> u64 {
-    if answer == right {
-        return differences;
+impl Tally {
+    // Counts a difference where the definition says another.
+    fn compare(&mut self, answer: u64, right: u64) {
+        self.differences = self.differences.wrapping_add(u64::from(answer != right));
     }
-    wrapping_add_u64(differences, 1)
-}
 
-// The tally with a case's worth.
-fn with_worth(t: Tally, c: Case) -> Tally
-    requires { c.m ≤ 64 }
-{
-    let v = c.valuation;
-    let answer = kinds::worth_of(v, c.m, c.set) as u64;
-    let right = defined::worth(v, c.m, c.set);
-    Tally {
-        worth: wrapping_add_u64(t.worth, answer),
-        gains: t.gains,
-        differences: counted(t.differences, answer, right),
+    // Adds a case's worth.
+    fn add_worth(&mut self, c: &Case) {
+        let answer = kinds::worth_of(c.valuation, c.m, c.set) as u64;
+        self.worth = self.worth.wrapping_add(answer);
+        self.compare(answer, defined::worth(c));
     }
-}
 
-// The tally with the gains of an independent part of a case's set; what the set has at or above m stays.
-fn with_gains(t: Tally, c: Case) -> Tally
-    requires { c.m ≤ 64 }
-{
-    let v = c.valuation;
-    let m = c.m;
-    let above = sets::minus(c.set, sets::all_below(m));
-    let set = sets::either(defined::part(v, m, c.set), above);
-    let answer = kinds::gains_of(v, m, set);
-    let right = defined::gains(v, m, set);
-    Tally {
-        worth: t.worth,
-        gains: wrapping_add_u64(t.gains, sets::size(answer) as u64),
-        differences: counted(t.differences, answer, right),
+    // Adds the gains of an independent part of a case's set; what the set has at or above m stays.
+    fn add_gains(&mut self, c: &Case) {
+        let above = sets::minus(c.set, sets::all_below(c.m));
+        let set = sets::either(defined::part(c), above);
+        let answer = kinds::gains_of(c.valuation, c.m, set);
+        self.gains = self.gains.wrapping_add(sets::size(answer) as u64);
+        self.compare(answer, defined::gains(c, set));
     }
-}
 
-// The tally with a case's usable instruments.
-fn with_usable(t: Tally, c: Case) -> Tally {
-    let v = c.valuation;
-    Tally {
-        worth: t.worth,
-        gains: t.gains,
-        differences: counted(t.differences, v.usable, c.usable),
+    // Compares the worth of a case's set by the words of note 6, where an instrument is glued. A glued instrument is not usable there.
+    fn compare_glued(&mut self, c: &Case) {
+        let own = rule::below(c.m, c.valuation.glued);
+        if own != 0 {
+            let answer = kinds::worth_of(defined::glued(c, own), c.m, c.set);
+            let right = defined::site(c, own).worth(c.m, c.set);
+            self.compare(answer as u64, right as u64);
+        }
+    }
+
+    // Adds a case.
+    fn add(&mut self, c: &Case) {
+        self.add_worth(c);
+        self.add_gains(c);
+        self.compare(c.valuation.usable, c.usable);
+        self.compare_glued(c);
     }
 }
 
-// The tally with the worth of a case's set by the words of note 6, where an instrument is glued. A glued instrument is not usable there.
-fn with_gained(t: Tally, c: Case) -> Tally
-    requires { c.m ≤ 64 }
-{
-    let v = c.valuation;
-    let own = rule::below(c.m, v.glued);
-    if own == 0 {
-        return t;
+// A case of a family, with what is drawn besides.
+fn case(f: &Family, e: &Ends, sort: Sort, random: &mut Random) -> Case {
+    let c = draw::drawn(f, random);
+    match sort {
+        Sort::Plain => c,
+        Sort::Glued => draw::glued(&c, random),
+        Sort::Lent => loan::lent(&c, e, random),
     }
-    let answer = kinds::worth_of(defined::glued(v, own), c.m, c.set) as u64;
-    let right = glue::worth(defined::site(v, own), c.m, c.set) as u64;
-    Tally {
-        worth: t.worth,
-        gains: t.gains,
-        differences: counted(t.differences, answer, right),
-    }
-}
-
-// The tally with a case.
-fn with_case(t: Tally, c: Case) -> Tally
-    requires { c.m ≤ 64 }
-{
-    with_gained(with_usable(with_gains(with_worth(t, c), c), c), c)
-}
-
-// A case of a family, drawn after x, with glued instruments, with loan days, or with neither.
-fn case(f: Family, e: Ends, x: u64, sort: u8) -> Case
-    ensures { result.m ≤ 64 }
-{
-    let c = draw::drawn(f, x);
-    if sort == GLUED {
-        return draw::glued(c);
-    }
-    if sort == LENT {
-        return loan::lent(c, e);
-    }
-    c
 }
 
 // The tally of so many cases of a family.
-fn tallied(f: Family, e: Ends, count: usize, seed: u64, sort: u8) -> Tally {
-    let mut t = Tally {
-        worth: 0,
-        gains: 0,
-        differences: 0,
-    };
-    let mut x = seed;
-    let mut k: usize = 0;
-    while k < count {
-        let c = case(f, e, x, sort);
-        t = with_case(t, c);
-        x = c.x;
-        k += 1;
+fn tallied(f: &Family, e: &Ends, sort: Sort, count: usize, seed: u64) -> Tally {
+    let mut tally = Tally::default();
+    let mut random = Random::new(seed);
+    for _ in 0..count {
+        tally.add(&case(f, e, sort, &mut random));
     }
-    t
+    tally
 }
 
 // The row of eight bytes at a number.
-fn row(bytes: &[u8; 4096], k: usize) -> [u8; 8]
+fn row(bytes: &[u8; 128], k: usize) -> [u8; 8]
     requires { k < 16 }
 {
-    let mut r = [0u8; 8];
-    for i in 0..8usize {
-        r[i] = bytes[k * 8 + i];
-    }
-    r
+    array::from_fn(|i| bytes[k * 8 + i])
 }
 
 // The family whose rows these are.
-fn family(bytes: &[u8; 4096]) -> Family {
+// Kept (point 2): `family` and `ends` name the rows of two structs, and share nothing but their shape.
+fn family(bytes: &[u8; 128]) -> Family {
     Family {
         kinds: row(bytes, 0),
         counts: row(bytes, 1),
@@ -156,7 +109,7 @@ fn family(bytes: &[u8; 4096]) -> Family {
 }
 
 // The ends of days whose rows these are: the six rows after the family's.
-fn ends(bytes: &[u8; 4096]) -> Ends {
+fn ends(bytes: &[u8; 128]) -> Ends {
     Ends {
         shelf_from: row(bytes, 6),
         shelf_to: row(bytes, 7),
@@ -168,28 +121,25 @@ fn ends(bytes: &[u8; 4096]) -> Ends {
 }
 
 // How many bytes the rows of a verb have.
-fn long(sort: u8) -> usize {
-    if sort == LENT { 96 } else { 48 }
+fn long(sort: Sort) -> usize {
+    if sort == Sort::Lent { 96 } else { 48 }
 }
 
-// `COUNT cases, worth W, gains G, differences D`.
-fn show(rt: &impl Print, count: usize, t: Tally) -> io::Result<()> {
-    print::marked(rt, b"", count as u64)?;
-    print::marked(rt, b" cases, worth ", t.worth)?;
-    print::marked(rt, b", gains ", t.gains)?;
-    print::marked(rt, b", differences ", t.differences)
-}
-
-// Answers a verb. The rows are hexadecimal, in the order of a family's fields, and after them for `lent` those of the ends of days.
-pub fn answer(rt: &impl Print, operands: &[u8], sort: u8) -> io::Result<()> {
+// Answers a verb by `COUNT cases, worth W, gains G, differences D`. The rows are hexadecimal, in the order of a family's fields, and after them
+// for `lent` those of the ends of days.
+pub fn answer(rt: &impl Print, operands: &[u8], sort: Sort) -> io::Result<()> {
     let after = lines::rest(operands);
     let count = lines::number(operands);
     let seed = lines::number(after);
-    let mut space = [0u8; 4096];
-    let k = lines::decode(lines::rest(after), &mut space);
-    if k != long(sort) {
-        return print::text(rt, b"SIX ROWS OF EIGHT BYTES, AND FOR lent TWELVE");
+    let mut space = [0u8; 128];
+    let rows = bytes::decoded(lines::rest(after), &mut space);
+    if rows.len() != long(sort) {
+        return print!(rt; "SIX ROWS OF EIGHT BYTES, AND FOR lent TWELVE");
     }
-    let t = tallied(family(&space), ends(&space), count, seed as u64, sort);
-    show(rt, count, t)
+    let Tally {
+        worth,
+        gains,
+        differences,
+    } = tallied(&family(&space), &ends(&space), sort, count, seed as u64);
+    print!(rt; "{count} cases, worth {worth}, gains {gains}, differences {differences}")
 }

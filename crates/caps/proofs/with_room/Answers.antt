@@ -1,21 +1,7 @@
-use mathlib.Core.Path.{◌≡◌, ◌∙◌}
-use native.Mathlib.Omega.{arith}
-use lib.ListN.{length}
-use Rattle.sets.proofs.Lists.{get_d_any}
-use Rattle.caps.proofs.Classes.{room_none, room_take, room_skip}
+use Rattle.sets.proofs.Choosing.{chosen_holds}
 use borrow.Author.Rules.{rules}
+use Rattle.caps.specs.Counts.{HasRoom}
 use Rattle.caps.proofs.with_room.Goals as goal
-use Rattle.caps.proofs.with_room.Goals.{else-c-lt16, then-c-lt16+else-counts-c, then-c-lt16+then-counts-c}
-
-pub loop-g-init : goal.loop-g-init
-loop-g-init c = (search rules, room_none _ _ _)
-
-pub loop-g-preserved : goal.loop-g-preserved
-loop-g-preserved c = let long : length c.args.class ≡ 64 = search rules in
-    let is = c.wide-c.ensures ∙ get_d_any c.args.class c.loop-g.g 0 255 (omega arith) in (
-      search rules,
-      elim c.if-c-lt16.branch [ then-c-lt16+then-counts-c w ↦ rw w.room-is (room_take _ _ _ _ _ c.loop-g.invariant.1 _ (rw is at w.if-c-lt16.true, rw is at w.if-counts-c.true) w.with-room.ensures) | then-c-lt16+else-counts-c w ↦ rw w.room-is (room_skip _ _ _ _ _ c.loop-g.invariant.1 (λ (_, f). let full = rw is at w.if-counts-c.false in absurd (omega arith))) | else-c-lt16 w ↦ rw w.room-is (room_skip _ _ _ _ _ c.loop-g.invariant.1 (λ (p, _). let out = rw is at w.if-c-lt16.false in absurd (omega arith))) ],
-    )
 
 pub returns : goal.returns
-returns c = let e : c.loop-g.g ≡ c.args.m = omega arith in rw e at c.loop-g.invariant.1
+returns c = record { at = chosen_holds _ (HasRoom c.args.class.now c.args.cap.now c.args.counts.now) _ _ c.those.ensures (λ i b l k. search rules) }

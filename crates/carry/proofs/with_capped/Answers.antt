@@ -9,7 +9,7 @@ use Rattle.carry.proofs.with_capped.Goals as goal
 
 pub returns-then-at-lt16 : goal.returns-then-at-lt16
 unfolding changed_state
-returns-then-at-lt16 c = refl
+returns-then-at-lt16 c = rw c.from-at.ensures refl
 
 pub returns-else-at-lt16 : goal.returns-else-at-lt16
 unfolding changed_state

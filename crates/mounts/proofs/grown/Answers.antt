@@ -1,41 +1,32 @@
-use Prim.Native.Nat.{ℕ, ◌<◌}
-use mathlib.Core.Path.{sym, ◌∙◌, subst, subst⁻¹}
-use mathlib.Core.Bool.{Bool, ◌||◌, not}
+use Prim.Native.Nat.{◌<◌}
+use mathlib.Core.Path.{sym, ◌∙◌, subst}
+use mathlib.Core.Bool.{Bool, not}
 use native.Mathlib.Omega.{arith}
 use lib.Dec.{T}
-use Rattle.matroid.specs.Taut.{follows₂}
-use Rattle.sets.specs.Bits.{bit}
-use Rattle.sets.proofs.Members.{fewer}
 use Rattle.sets.proofs.Growing.{growing_done}
-use Rattle.mounts.proofs.Agreeing.{worded_agree, grown_agree}
+use Rattle.mounts.proofs.Agreeing.{grown_worded}
 use Rattle.mounts.proofs.Growth.{grows_start, grows_out, grows_take, grows_skip}
 use Rattle.mounts.proofs.grown.Goals as goal
-use Rattle.mounts.proofs.grown.Goals.{else-member, then-member}
 
-pub loop-room-init : goal.loop-room-init
-loop-room-init c = grows_start _ _ _ _ _ c.requires _ _ c.begin-begun.ensures.held c.candidates-left.ensures
+pub loop-g-init : goal.loop-g-init
+loop-g-init c = rw (c.into_iter-g-iterator.ensures.into_iter_gives, c.members-g-items.ensures) (grows_start _ _ _ _ _ c.requires _ _ c.begin-begun.ensures.held c.candidates.ensures)
 
 pub returns-then-room-eq0 : goal.returns-then-room-eq0
-returns-then-room-eq0 c = let in-set : (j : ℕ) → T (bit c.args.set j) → T (bit c.either.result j) = λ j t. subst⁻¹ T (c.either.ensures j) (follows₂ (λ a b. a) (λ a b. a || b) tt (bit c.args.set j) (bit c.args.from j) t) in
-    let in-from : (j : ℕ) → T (bit c.args.from j) → T (bit c.either.result j) = λ j t. subst⁻¹ T (c.either.ensures j) (follows₂ (λ a b. b) (λ a b. a || b) tt (bit c.args.set j) (bit c.args.from j) t) in
-    grown_agree _ (bit c.either.result) _ _ (worded_agree _ _ _ _ _ _ _ _ c.requires c.begin-begun.ensures.words) _ _ _ _ in-set in-from (growing_done _ _ _ _ _ _ _ _ c.loop-room.invariant.growing)
+returns-then-room-eq0 c = grown_worded _ _ _ _ _ _ _ _ _ _ _ _ c.requires c.begin-begun.ensures.words c.either.ensures (growing_done _ _ _ _ _ _ _ _ c.loop-g.invariant.growing)
 
-pub returns-then-g-ge64 : goal.returns-then-g-ge64
-returns-then-g-ge64 c = let in-set : (j : ℕ) → T (bit c.args.set j) → T (bit c.either.result j) = λ j t. subst⁻¹ T (c.either.ensures j) (follows₂ (λ a b. a) (λ a b. a || b) tt (bit c.args.set j) (bit c.args.from j) t) in
-    let in-from : (j : ℕ) → T (bit c.args.from j) → T (bit c.either.result j) = λ j t. subst⁻¹ T (c.either.ensures j) (follows₂ (λ a b. b) (λ a b. a || b) tt (bit c.args.set j) (bit c.args.from j) t) in
-    grown_agree _ (bit c.either.result) _ _ (worded_agree _ _ _ _ _ _ _ _ c.requires c.begin-begun.ensures.words) _ _ _ _ in-set in-from (growing_done _ _ _ _ _ _ _ _ c.loop-room.invariant.growing)
+pub join-requires : goal.join-requires
+join-requires c = let h = c.loop-g.invariant in
+    let next = c.in-Some.ensures.steps in
+    (h.matched, next.some, grows_out _ _ _ _ _ _ _ _ _ h _ (next.low.member next.some))
 
-pub join-held-requires : goal.join-held-requires
-join-held-requires c = let h = c.loop-room.invariant in
-    let some = c.if-g-ge64.false in
-    (h.matched, some, grows_out _ _ _ _ _ _ _ _ _ h _ (c.lowest-g.ensures.member some))
+pub loop-g-preserved-then-member : goal.loop-g-preserved-then-member
+loop-g-preserved-then-member c = let next = c.in-Some.ensures.steps in
+    let room : 0 < c.loop-g.room = omega (arith, c.if-room-eq0.false) in
+    grows_take _ _ _ _ _ _ _ _ _ c.loop-g.invariant _ (next.low.member next.some) _ c.join.ensures _ next.is c.requires (subst T (sym c.if-member.true ∙ c.member.ensures) tt) _ c.with-larger.ensures room
 
-pub loop-room-smaller : goal.loop-room-smaller
-loop-room-smaller c = fewer _ _ _ c.lowest-g.ensures c.if-g-ge64.false c.without-left.ensures
+pub loop-g-preserved : goal.loop-g-preserved
+loop-g-preserved c = let next = c.in-Some.ensures.steps in
+    grows_skip _ _ _ _ _ _ _ _ _ c.loop-g.invariant _ (next.low.member next.some) _ c.join.ensures _ next.is (subst (λ (b : Bool). T (not b)) (sym c.if-member.false ∙ c.member.ensures) tt)
 
-pub loop-room-preserved : goal.loop-room-preserved
-loop-room-preserved c = let h = c.loop-room.invariant in
-    let there = c.lowest-g.ensures.member c.if-g-ge64.false in
-    let member = c.member.ensures in
-    let room : 0 < c.loop-room.room = omega (arith, c.if-room-eq0.false) in
-    elim c.if-member.branch [ then-member w ↦ rw (w.larger-is, w.room-is) (grows_take _ _ _ _ _ _ _ _ _ h _ there _ c.join-held.ensures _ c.without-left.ensures c.requires (subst T (sym w.if-member.true ∙ member) tt) _ w.with-larger.ensures room) | else-member w ↦ rw (w.larger-is, w.room-is) (grows_skip _ _ _ _ _ _ _ _ _ h _ there _ c.join-held.ensures _ c.without-left.ensures (subst (λ (b : Bool). T (not b)) (sym w.if-member.false ∙ member) tt)) ]
+pub returns : goal.returns
+returns c = grown_worded _ _ _ _ _ _ _ _ _ _ _ _ c.requires c.begin-begun.ensures.words c.either.ensures (growing_done _ _ _ _ _ _ _ _ c.loop-g.invariant.growing)

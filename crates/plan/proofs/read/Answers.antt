@@ -8,9 +8,6 @@ use Rattle.plan.proofs.read.Goals as goal
 pub returns-then-byte_at-ne1 : goal.returns-then-byte_at-ne1
 returns-then-byte_at-ne1 c = c.refuse.ensures ∙ sym (plan_none _ (λ e. c.if-byte_at-ne1.true (c.byte_at.ensures ∙ e)))
 
-pub read_commands-p-requires : goal.read_commands-p-requires
+pub read_commands-requires : goal.read_commands-requires
 unfolding row_at row_team part
-read_commands-p-requires c = (omega arith, refl, refl, refl)
-
-pub returns : goal.returns
-returns c = c.answer.ensures ∙ c.read_commands-p.ensures.same
+read_commands-requires c = (omega arith, refl, refl, refl)

@@ -1,14 +1,14 @@
+use mathlib.Core.Path.{◌≡◌, ◌∙◌}
 use native.Mathlib.Omega.{arith}
-use lib.ListN.{length-set}
-use Rattle.row.proofs.Rows.{row_opened}
-use borrow.Author.Rules.{rules}
+use lib.ListN.{length, set, length-set}
+use Rattle.row.specs.Row.{part}
+use Rattle.row.proofs.Rows.{filled_part, row_opened}
 use Rattle.row.proofs.open.Goals as goal
 
-pub fill-requires : goal.fill-requires
-fill-requires c = (search rules, simp length-set (search rules))
-
-pub fill-requires-2 : goal.fill-requires-2
-fill-requires-2 c = (search rules, omega (arith, simp length-set at c.fill.ensures.long))
-
 pub returns : goal.returns
-returns c = row_opened c.args.row.now c.fill.new.row c.fill-2.new.row _ _ _ c.requires c.fill.ensures c.fill-2.ensures
+unfolding part
+returns c =
+    let l = set (set c.args.row.now 0 c.args.kind) 1 c.args.channels in
+    let long : length l ≡ 343 = length-set (set c.args.row.now 0 c.args.kind) 1 c.args.channels ∙ length-set c.args.row.now 0 c.args.kind ∙ c.requires in
+    let f = filled_part l 2 16 c.args.cap (omega (arith, long)) c.fill.new.self (c.fill.ensures.after (λ y e. e)) in
+    row_opened c.args.row.now _ _ _ _ _ c.requires f (filled_part _ 18 325 255 (omega (arith, f.long, long)) c.fill-2.new.self (c.fill-2.ensures.after (λ y e. e)))

@@ -7,11 +7,11 @@ unfolding row_team
 returns c = λ j. record {
   kind = get_or c.args.row.now 0 0;
   channels = get_or c.args.row.now 1 0;
-  cap = c.caps.ensures j;
-  named = c.table.ensures j;
-  first = c.table-2.ensures j;
-  second = c.table-3.ensures j;
-  third = c.table-4.ensures j;
-  fourth = c.table-5.ensures j;
-  days = c.days_command.ensures j;
+  cap = c.bytes.ensures j;
+  named = c.bytes-2.ensures j;
+  first = c.bytes-3.ensures j;
+  second = c.bytes-4.ensures j;
+  third = c.bytes-5.ensures j;
+  fourth = c.bytes-6.ensures j;
+  days = c.bytes-7.ensures j;
 }

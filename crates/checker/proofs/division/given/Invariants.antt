@@ -3,8 +3,8 @@ use mathlib.Core.Path.{◌≡◌}
 use Rattle.checker.proofs.Divided.{counted_to}
 use Rattle.checker.proofs.division.given.Given as goal
 
-abbrev pub invariant-loop-t : goal.invariant-loop-t
-invariant-loop-t l = (l.t ≤ l.n) × (l.count ≡ counted_to l.bundles l.t)
+abbrev pub invariant-loop-bundle : goal.invariant-loop-bundle
+invariant-loop-bundle l = (l.bundle-index ≤ l.bundle-index-end) × (l.count ≡ counted_to l.fn.bundles l.bundle-index)
 
-abbrev pub decreases-loop-t : goal.decreases-loop-t
-decreases-loop-t l = l.n - l.t
+abbrev pub decreases-loop-bundle : goal.decreases-loop-bundle
+decreases-loop-bundle l = l.bundle-index-end - l.bundle-index

@@ -1,29 +1,17 @@
-use mathlib.Core.Path.{◌≡◌, refl, ◌∙◌}
-use native.Mathlib.Omega.{arith}
-use borrow.Author.Count.{below_more}
-use Rattle.engine.proofs.Filling.{worthless_none, agent_worth}
-use borrow.Author.Rules.{rules}
+use lib.ListN.{take}
+use Rattle.std.proofs.Common.{◌≡◌, rules, tests}
+use Rattle.std.specs.Bool.{⊤}
+use Rattle.std.proofs.lemmas.Iterator.{cases_from_all, YieldsList-from_slice}
+use Rattle.matroid.specs.Matroid.{worth}
+use Rattle.sets.specs.Bits.{bit}
+use Rattle.kinds.specs.Valuations.{matroid_of}
+use Rattle.engine.proofs.Filling.{worthless_none, worthless_all}
 use Rattle.engine.proofs.fill.worthless.Goals as goal
 
-pub returns-then-lowest-ge64 : goal.returns-then-lowest-ge64
-returns-then-lowest-ge64 c = λ _. worthless_none _ _ _ c.requires.small c.lowest.ensures c.if-lowest-ge64.true
+pub returns-then-set-eq0 : goal.returns-then-set-eq0
+returns-then-set-eq0 c = λ _. worthless_none _ _ c.if-set-eq0.true
 
-pub loop-t-init : goal.loop-t-init
-loop-t-init c = (search rules, λ k l. absurd (omega arith))
-
-pub offset_bounds-valuations-t : goal.offset_bounds-valuations-t
-offset_bounds-valuations-t c = omega (arith, c.requires.few)
-
-pub bounds-valuations-t : goal.bounds-valuations-t
-bounds-valuations-t c = omega (arith, c.requires.few)
-
-pub worth_of-requires : goal.worth_of-requires
-worth_of-requires c = c.requires.small
-
-pub loop-t-preserved : goal.loop-t-preserved
-loop-t-preserved c = let is = agent_worth c.args.s _ _ _ _ _ c.loop-t-test.true c.requires refl c.worth_of.ensures in
-    let nothing : c.worth_of.result ≡ 0 = omega arith in
-    (search rules, below_more _ _ c.loop-t.invariant.1 (is ∙ nothing))
-
-pub returns : goal.returns
-returns c = let e : c.loop-t.t ≡ c.args.s.n = omega arith in λ _. record { at = rw e at c.loop-t.invariant.1 }
+pub returns-else-set-eq0 : goal.returns-else-set-eq0
+returns-else-set-eq0 c = let s = c.args.s in
+    worthless_all s c.args.set c.requires c.all.result
+    (cases_from_all _ _ c.all.result (λ v. worth (matroid_of s.m v) (bit c.args.set) ≡ 0) (λ v. ⊤) c.all.ensures.ran (YieldsList-from_slice (take s.n s.valuations) (cc)) (λ x q k. search (rules, tests)) (λ x q k. tt))

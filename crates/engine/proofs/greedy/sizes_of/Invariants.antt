@@ -1,4 +1,3 @@
-use Prim.Native.Nat.{◌≤◌, ◌-◌}
 use lib.ListN.{get_or}
 use Rattle.matroid.specs.Set.{size}
 use Rattle.sets.specs.Bits.{bit}
@@ -6,7 +5,4 @@ use Rattle.sets.proofs.Each.{Tabled}
 use Rattle.engine.proofs.greedy.sizes_of.Given as goal
 
 abbrev pub invariant-loop-t : goal.invariant-loop-t
-invariant-loop-t l = (l.t ≤ l.n) × Tabled 12 (λ u. size 64 (bit (get_or l.bundles u 0))) 0 l.t l.sizes
-
-abbrev pub decreases-loop-t : goal.decreases-loop-t
-decreases-loop-t l = l.n - l.t
+invariant-loop-t l = Tabled 12 (λ u. size 64 (bit (get_or l.fn.bundles u 0))) 0 l.t l.sizes

@@ -1,17 +1,14 @@
-use mathlib.Core.Path.{◌≡◌}
-use native.Mathlib.Omega.{arith}
-use borrow.Author.Count.{below_more}
-use borrow.Author.Rules.{rules}
+use lib.ListN.{length, take}
+use Rattle.std.proofs.Common.{◌≡◌, ◌<◌, ◌≤◌, rules, tests}
+use Rattle.std.proofs.lemmas.Iterator.{IsFirst-from_position, YieldsList-from_slice, YieldsList-from_zip}
+use Rattle.engine.proofs.Leveling.{first_is}
 use Rattle.engine.proofs.level.first_short.Goals as goal
 
-pub loop-t-init : goal.loop-t-init
-loop-t-init c = (search rules, λ k l. absurd (omega arith))
-
-pub returns-then-sizes-t : goal.returns-then-sizes-t
-returns-then-sizes-t c = record { top = omega arith; before = c.loop-t.invariant.1; short = λ _. c.if-sizes-t.true }
-
-pub loop-t-preserved : goal.loop-t-preserved
-loop-t-preserved c = (search rules, below_more _ _ c.loop-t.invariant.1 c.if-sizes-t.false)
-
 pub returns : goal.returns
-returns c = let e : c.loop-t.t ≡ c.args.n = omega arith in record { top = omega arith; before = rw e at c.loop-t.invariant.1; short = λ l. absurd (omega arith) }
+returns c = let sizes = c.args.sizes in
+    let shares = c.args.shares in
+    let n = c.args.n in
+    let long_sizes : length sizes ≡ 12 = search (rules, c.well_formed) in
+    let long_shares : length shares ≡ 12 = search (rules, c.well_formed) in
+    first_is sizes shares n long_sizes long_shares c.requires c.position.result
+    (IsFirst-from_position c.position.new.self _ c.position.result (λ p. p.0 < p.1) (λ p. p.1 ≤ p.0) c.position.ensures.ran (YieldsList-from_zip (YieldsList-from_slice (take n sizes) (cc)) (YieldsList-from_slice (take n shares) (cc))) (λ x q k. search (rules, tests)) (λ x q k. search (rules, tests)))

@@ -7,17 +7,11 @@ use Rattle.engine.proofs.Sizes.{held_total, given_le}
 use Rattle.engine.proofs.Sharing.{full_measured, measured_given, share_levellable, shares}
 use Rattle.engine.proofs.share.searched.Goals as goal
 
-pub total-requires : goal.total-requires
-total-requires c = c.fill-f.ensures.0.held.right
-
 pub overflow_cast-share : goal.overflow_cast-share
 overflow_cast-share c = let is = held_total _ _ c.fill-f.ensures.0.held _ c.total.ensures in
     let most : c.total.result ≤ c.args.m = subst⁻¹ (λ (x : ℕ). x ≤ c.args.m) is (given_le _ c.fill-f.result.holding.owner) in
     let d = div-le_self c.total.result c.args.n in
     omega (arith, c.requires.0)
-
-pub measured-requires : goal.measured-requires
-measured-requires c = c.fill-f.ensures.0.held.right
 
 pub level-levelled-requires : goal.level-levelled-requires
 level-levelled-requires c = let start = c in

@@ -1,14 +1,16 @@
 use mathlib.Core.Path.{refl}
-use mathlib.Core.Logic.{inl, inr}
-use Rattle.exchange.proofs.Following.{following_start, following_more, following_end}
+use Rattle.exchange.proofs.Following.{following_start, following_more, following_end, following_full}
+use native.Mathlib.Omega.{arith}
 use Rattle.exchange.proofs.chains.moves_back.Goals as goal
-use Rattle.exchange.proofs.chains.moves_back.Goals.{else-p-ge64+then-k-ge63, then-p-ge64}
 
-pub loop-trace-init : goal.loop-trace-init
-loop-trace-init c = following_start _ _ _ _ c.requires refl refl
+pub loop-k-init : goal.loop-k-init
+loop-k-init c = following_start _ _ _ c.requires refl
 
-pub loop-trace-preserved : goal.loop-trace-preserved
-loop-trace-preserved c = following_more _ _ _ _ c.loop-trace.item c.loop-trace.to _ _ c.loop-trace.invariant refl refl _ refl c.if-p-ge64.false c.if-k-ge63.false
+pub loop-k-preserved : goal.loop-k-preserved
+loop-k-preserved c = following_more _ _ _ _ c.loop-k.step-items c.loop-k.invariant c.loop-k-test.true _ refl c.if-p-ge64.false
+
+pub returns-then-p-ge64 : goal.returns-then-p-ge64
+returns-then-p-ge64 c = following_end _ _ _ _ c.loop-k.step-items c.loop-k.invariant c.loop-k-test.true _ refl c.if-p-ge64.true
 
 pub returns : goal.returns
-returns c = following_end _ _ _ _ c.loop-trace.item c.loop-trace.to _ _ c.loop-trace.invariant refl refl _ refl (elim c.if-p-ge64.branch [ then-p-ge64 w ↦ inl w.if-p-ge64.true | else-p-ge64+then-k-ge63 w ↦ inr w.if-k-ge63.true ])
+returns c = following_full _ _ _ _ _ c.loop-k.invariant (omega (arith, c.loop-k-test.false, c.loop-k.auto.k-end))

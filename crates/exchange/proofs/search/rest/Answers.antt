@@ -1,10 +1,11 @@
-use native.Mathlib.Omega.{arith}
 use mathlib.Core.Path.{refl}
+use Rattle.sets.proofs.Below.{none_there}
 use Rattle.exchange.specs.Search.{here, onward}
+use Rattle.exchange.proofs.Words.{some_there}
 use Rattle.exchange.proofs.search.rest.Goals as goal
 
-pub returns-then-lowest-lt64 : goal.returns-then-lowest-lt64
-returns-then-lowest-lt64 c = here _ c.if-lowest-lt64.true (c.lowest.ensures.member c.if-lowest-lt64.true) refl
+pub returns-then-done : goal.returns-then-done
+returns-then-done c = onward (λ k l. rw c.if-done.true (none_there k)) c.minus.ensures
 
-pub returns-else-lowest-lt64 : goal.returns-else-lowest-lt64
-returns-else-lowest-lt64 c = onward (λ k l. c.lowest.ensures.least k (omega (arith, c.if-lowest-lt64.false))) c.minus.ensures
+pub returns-else-done : goal.returns-else-done
+returns-else-done c = let (k, l, t) = some_there c.args.todo c.ranges.todo.fits c.if-done.false in here k l t refl

@@ -4,9 +4,6 @@ use Rattle.holding.specs.Chain.{chained}
 use Rattle.holding.proofs.Rights.{chained_right}
 use Rattle.holding.proofs.Holding.chain.Goals as goal
 
-pub carried_out-requires : goal.carried_out-requires
-carried_out-requires c = (c.requires, sym c.fits.ensures ∙ c.if-fits.true)
-
 pub returns-then-fits : goal.returns-then-fits
 unfolding chained
 returns-then-fits c = let self = c.args.self in

@@ -1,4 +1,4 @@
-use mathlib.Core.Path.{◌≡◌, sym, ◌∙◌, subst⁻¹}
+use mathlib.Core.Path.{◌≡◌, refl, sym, ◌∙◌, subst⁻¹}
 use native.Mathlib.Omega.{arith}
 use lib.ListN.{length}
 use Rattle.holding.specs.Count.{Right}
@@ -8,6 +8,7 @@ use Rattle.holding.proofs.Counting.{raise_ready}
 use Rattle.holding.proofs.Rights.{gave_right, gave_taken}
 use borrow.Author.Rules.{rules}
 use Rattle.holding.proofs.Holding.give.Goals as goal
+use Rattle.holding.proofs.Holding.give.Goals.{else-is_instrument-via-then-is_instrument+then-is_team+else-in_pool, else-is_instrument-via-then-is_instrument+else-is_team, else-is_instrument-via-else-is_instrument}
 
 pub overflow_cast-owner : goal.overflow_cast-owner
 overflow_cast-owner c = omega (arith, team_below _ _ (sym c.is_team.ensures ∙ c.if-is_team.true))
@@ -24,14 +25,13 @@ returns-then-in_pool c = let self = c.args.self in
     let next = rw c.tally.ensures at (rw c.raised.ensures at c.with.ensures) ∙ gave_taken self c.requires long _ (sym c.is_instrument.ensures ∙ c.if-is_instrument.true) _ (sym c.is_team.ensures ∙ c.if-is_team.true) (sym c.in_pool.ensures ∙ c.if-in_pool.true) in
     record { next = next; right = subst⁻¹ Right next (gave_right self _ _ c.requires) }
 
-pub returns-else-in_pool : goal.returns-else-in_pool
+pub returns : goal.returns
 unfolding gave
-returns-else-in_pool c = record { next = rw (sym c.is_instrument.ensures ∙ c.if-is_instrument.true, sym c.is_team.ensures ∙ c.if-is_team.true, sym c.in_pool.ensures ∙ c.if-in_pool.false); right = c.requires }
-
-pub returns-else-is_team : goal.returns-else-is_team
-unfolding gave
-returns-else-is_team c = record { next = rw (sym c.is_instrument.ensures ∙ c.if-is_instrument.true, sym c.is_team.ensures ∙ c.if-is_team.false); right = c.requires }
-
-pub returns-else-is_instrument : goal.returns-else-is_instrument
-unfolding gave
-returns-else-is_instrument c = record { next = rw (sym c.is_instrument.ensures ∙ c.if-is_instrument.false); right = c.requires }
+returns c = record {
+  next = elim c.else-is_instrument.branch [
+    | else-is_instrument-via-then-is_instrument+then-is_team+else-in_pool w ↦ rw (sym c.is_instrument.ensures ∙ w.if-is_instrument.true, sym w.is_team.ensures ∙ w.if-is_team.true, sym w.in_pool.ensures ∙ w.if-in_pool.false) refl
+    | else-is_instrument-via-then-is_instrument+else-is_team w ↦ rw (sym c.is_instrument.ensures ∙ w.if-is_instrument.true, sym w.is_team.ensures ∙ w.if-is_team.false) refl
+    | else-is_instrument-via-else-is_instrument w ↦ rw (sym c.is_instrument.ensures ∙ w.if-is_instrument.false) refl
+  ];
+  right = c.requires;
+}

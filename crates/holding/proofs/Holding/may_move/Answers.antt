@@ -8,4 +8,4 @@ returns-then-is_instrument c = rw (sym c.is_instrument.ensures ∙ c.if-is_instr
 
 pub returns-else-is_instrument : goal.returns-else-is_instrument
 unfolding may_move
-returns-else-is_instrument c = rw (sym c.is_instrument.ensures ∙ c.if-is_instrument.false)
+returns-else-is_instrument c = rw (sym c.is_instrument.ensures ∙ c.if-is_instrument.false) c.if-is_instrument.false

@@ -2,4 +2,4 @@ use Rattle.kinds.proofs.Truncating.{grown_truncate}
 use Rattle.kinds.proofs.channels.grown.Goals as goal
 
 pub returns : goal.returns
-returns c = grown_truncate _ _ _ _ _ _ _ c.spare-room.ensures.few c.spare-room.ensures.room c.grown.ensures
+returns c = let spare = c.spare-room.ensures in grown_truncate _ _ _ _ _ _ _ spare.few (rw c.from.ensures at spare.room) c.grown.ensures

@@ -1,15 +1,16 @@
+use mathlib.Core.Path.{sym}
 use Rattle.kinds.proofs.Truncating.{joins_zero}
 use Rattle.kinds.proofs.Cases.{of_caps, of_loops, of_mounts, of_none}
 use Rattle.kinds.proofs.structure.gains.Goals as goal
 
-pub returns-then-kind-eq2 : goal.returns-then-kind-eq2
-returns-then-kind-eq2 c = rw (of_caps c.args.m c.args.team c.if-kind-eq2.true) c.gains.ensures
+pub returns-in-Ok-Caps : goal.returns-in-Ok-Caps
+returns-in-Ok-Caps c = rw (of_caps c.args.m c.args.team.now (sym (rw c.in-Ok-Caps.field-0-is at c.in-Ok-Caps.ensures))) c.gains.ensures
 
-pub returns-then-kind-eq3 : goal.returns-then-kind-eq3
-returns-then-kind-eq3 c = rw (of_loops c.args.m c.args.team c.if-kind-eq3.true) c.gains-then-kind-eq3.ensures
+pub returns-in-Ok-Loops : goal.returns-in-Ok-Loops
+returns-in-Ok-Loops c = rw (of_loops c.args.m c.args.team.now (sym (rw c.in-Ok-Loops.field-0-is at c.in-Ok-Loops.ensures))) (rw c.spans.ensures at c.gains-in-Ok-Loops.ensures)
 
-pub returns-then-kind-eq8 : goal.returns-then-kind-eq8
-returns-then-kind-eq8 c = rw (of_mounts c.args.m c.args.team c.if-kind-eq8.true) c.gains-then-kind-eq8.ensures
+pub returns-in-Ok-Mounts : goal.returns-in-Ok-Mounts
+returns-in-Ok-Mounts c = rw (of_mounts c.args.m c.args.team.now (sym (rw c.in-Ok-Mounts.field-0-is at c.in-Ok-Mounts.ensures))) (rw c.tables.ensures at c.gains-in-Ok-Mounts.ensures)
 
-pub returns : goal.returns
-returns c = rw (of_none c.args.m c.args.team c.if-kind-eq2.false c.if-kind-eq3.false c.if-kind-eq8.false) (λ _. joins_zero _ _)
+pub returns-in-Err : goal.returns-in-Err
+returns-in-Err c = let (_, caps, loops, mounts) = c.in-Err.ensures in rw (of_none c.args.m c.args.team.now caps loops mounts) (λ _. joins_zero _ _)

@@ -1,15 +1,16 @@
+use mathlib.Core.Path.{sym}
 use Rattle.sets.proofs.Growing.{grown_same}
 use Rattle.kinds.proofs.Cases.{of_caps, of_loops, of_mounts}
 use Rattle.kinds.proofs.structure.grown.Goals as goal
 
-pub returns-then-kind-eq2 : goal.returns-then-kind-eq2
-returns-then-kind-eq2 c = rw (of_caps c.args.m c.args.team c.if-kind-eq2.true) c.grown.ensures
+pub returns-in-Ok-Caps : goal.returns-in-Ok-Caps
+returns-in-Ok-Caps c = rw (of_caps c.args.m c.args.team.now (sym (rw c.in-Ok-Caps.field-0-is at c.in-Ok-Caps.ensures))) c.grown.ensures
 
-pub returns-then-kind-eq3 : goal.returns-then-kind-eq3
-returns-then-kind-eq3 c = rw (of_loops c.args.m c.args.team c.if-kind-eq3.true) c.grown-then-kind-eq3.ensures
+pub returns-in-Ok-Loops : goal.returns-in-Ok-Loops
+returns-in-Ok-Loops c = rw (of_loops c.args.m c.args.team.now (sym (rw c.in-Ok-Loops.field-0-is at c.in-Ok-Loops.ensures))) (rw c.spans.ensures at c.grown-in-Ok-Loops.ensures)
 
-pub returns-then-kind-eq8 : goal.returns-then-kind-eq8
-returns-then-kind-eq8 c = rw (of_mounts c.args.m c.args.team c.if-kind-eq8.true) c.grown-then-kind-eq8.ensures
+pub returns-in-Ok-Mounts : goal.returns-in-Ok-Mounts
+returns-in-Ok-Mounts c = rw (of_mounts c.args.m c.args.team.now (sym (rw c.in-Ok-Mounts.field-0-is at c.in-Ok-Mounts.ensures))) (rw c.tables.ensures at c.grown-in-Ok-Mounts.ensures)
 
-pub returns : goal.returns
-returns c = grown_same _ _ _ _
+pub returns-in-Err : goal.returns-in-Err
+returns-in-Err c = grown_same _ _ _ _

@@ -1,16 +1,9 @@
-use mathlib.Core.Path.{◌≡◌, ◌∙◌}
-use native.Mathlib.Omega.{arith}
-use Rattle.sets.proofs.Each.{tabled_none, tabled_next, tabled_all}
-use Rattle.plan.proofs.Rows.{row_lent}
-use Rattle.plan.proofs.Run.{team_row}
+use Prim.Native.Nat.{◌+◌}
 use borrow.Author.Rules.{rules}
+use Rattle.plan.specs.Progress.{row_at}
+use Rattle.plan.proofs.Filling.{filled_all}
+use Rattle.plan.proofs.Run.{team_row}
 use Rattle.plan.proofs.parts.teams.Goals as goal
 
-pub loop-t-init : goal.loop-t-init
-loop-t-init c = (search rules, tabled_none _ _ _ _ c.blank-teams.ensures)
-
-pub loop-t-preserved : goal.loop-t-preserved
-loop-t-preserved c = (search rules, tabled_next _ _ _ _ _ c.loop-t.invariant.1 (omega (arith, c.loop-t-test.true, c.requires.1)) _ (c.team-team.ensures ∙ row_lent _ _))
-
 pub returns : goal.returns
-returns c = let e : c.loop-t.t ≡ c.args.n = omega arith in tabled_all _ _ _ _ _ (rw e at c.loop-t.invariant.1) _ (team_row _ _)
+returns c = filled_all _ _ _ _ _ c.filled.ensures (λ k. row_at c.args.rows.now (k + 1)) (λ i x l k. search rules) _ c.blank.ensures _ (team_row _ _)

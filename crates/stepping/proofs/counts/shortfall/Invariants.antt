@@ -1,8 +1,5 @@
-use Prim.Native.Nat.{◌*◌, ◌≤◌, ◌-◌}
+use Rattle.std.proofs.Common.{◌*◌, ◌≤◌}
 use Rattle.stepping.proofs.counts.shortfall.Given as goal
 
 abbrev pub invariant-loop-t : goal.invariant-loop-t
-invariant-loop-t l = (l.sum ≤ l.t * 255) × (l.t ≤ 12)
-
-abbrev pub decreases-loop-t : goal.decreases-loop-t
-decreases-loop-t l = 12 - l.t
+invariant-loop-t l = l.sum ≤ l.t * 255

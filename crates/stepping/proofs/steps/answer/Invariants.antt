@@ -1,10 +1,8 @@
 use Rattle.holding.specs.Count.{Right}
-use Prim.Native.Nat.{◌-◌}
-use lib.ListN.{length}
 use Rattle.stepping.proofs.steps.answer.Given as goal
 
-abbrev pub invariant-loop-at : goal.invariant-loop-at
-invariant-loop-at g l = Right l.h
-
-abbrev pub decreases-loop-at : goal.decreases-loop-at
-decreases-loop-at g l = length l.text - l.at
+abbrev pub invariant-loop-k : goal.invariant-loop-k
+invariant-loop-k g l =
+    (goal.iterator-loop-k g).can_next l.k-iterator
+    × (goal.iterator-loop-k g).is_finite l.k-iterator
+    × Right l.h

@@ -1,0 +1,62 @@
+// Bytes that a text writes as pairs of hexadecimal digits, with spaces between them or none.
+ghost use Rattle.std.specs.Prelude.{◌≡◌, ◌<◌, ◌≤◌, IfSome, length};
+ghost use Rattle.std.specs.Iterator.{at_most};
+ghost use Rattle.lines.specs.Pieces.{GivesByte, digit_of};
+
+// The bytes that are still to come, up to where no pair stands.
+#[derive(Clone, Copy)]
+pub struct Bytes<'a> {
+    rest: &'a [u8],
+}
+
+// The bytes that a text writes.
+pub fn of(text: &[u8]) -> Bytes<'_>
+    ensures { result.rest.now ≡ text.now }
+{
+    Bytes { rest: text }
+}
+
+// The value of a hexadecimal digit in either case.
+fn digit(byte: u8) -> Option<u8>
+    ensures { IfSome result (λ d. (d < 16) × (d ≡ digit_of byte)) }
+{
+    match byte {
+        b'0'..=b'9' => Some(byte - b'0'),
+        b'a'..=b'f' => Some(byte - b'a' + 10),
+        b'A'..=b'F' => Some(byte - b'A' + 10),
+        _ => None,
+    }
+}
+
+impl Iterator for Bytes<'_> {
+    type Item = u8;
+
+    ghost next_gives = { GivesByte };
+
+    ghost remaining = { λ s. at_most (length s.rest.now) };
+
+    fn next(&mut self) -> Option<u8> {
+        let [high, low, rest @ ..] = crate::trimmed(self.rest) else {
+            return None;
+        };
+        let byte = digit(*high)? * 16 + digit(*low)?;
+        self.rest = rest;
+        Some(byte)
+    }
+}
+
+// The bytes that a text writes, at the start of a lent space: as many as it has room for.
+pub fn decoded<'a>(text: &[u8], space: &'a mut [u8]) -> &'a mut [u8]
+    ensures { length result.now ≤ length space.old }
+{
+    let mut bytes = of(text);
+    let mut count: usize = 0;
+    for place in space.iter_mut() {
+        let Some(byte) = bytes.next() else {
+            break;
+        };
+        *place = byte;
+        count += 1;
+    }
+    &mut space[..count]
+}

@@ -1,8 +1,0 @@
-use Rattle.std.proofs.Common.{◌-◌, ◌≤◌}
-use Rattle.rule.proofs.of_class.Given as goal
-
-abbrev pub invariant-loop-g : goal.invariant-loop-g
-invariant-loop-g l = l.g ≤ 64
-
-abbrev pub decreases-loop-g : goal.decreases-loop-g
-decreases-loop-g l = 64 - l.g
