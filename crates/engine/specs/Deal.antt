@@ -18,6 +18,10 @@ pub record QuotaOf (m n : ℕ) (v : Valuation) (r : Quota) : Type 0 where
   pub low : (g : ℕ) → T (bit r.bound g) → g < m
   pub allowed : Allowed m n v r.bound r.share
 
+-- the cut is into n parts
+abbrev pub InParts : (m n : ℕ) → List ℕ → Type 0
+InParts m n part = (g : ℕ) → g < m → get_or part g 0 < n
+
 -- the cut is into n parts, and each is worth the share
 pub record Dealt (m n : ℕ) (v : Valuation) (share : ℕ) (part : List ℕ) : Type 0 where
   pub below : (g : ℕ) → g < m → get_or part g 0 < n

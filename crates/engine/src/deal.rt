@@ -1,6 +1,6 @@
 // A share without a search: a number that no share exceeds, and a deal that gives every part as much.
-ghost use Rattle.std.specs.Prelude.{◌≤◌, IfSome};
-ghost use Rattle.engine.specs.Deal.{Allowed, QuotaOf, Dealt};
+ghost use Rattle.std.specs.Prelude.{◌≤◌, MatchResult};
+ghost use Rattle.engine.specs.Deal.{Allowed, QuotaOf, InParts, Dealt};
 
 use kinds::Valuation;
 
@@ -42,20 +42,20 @@ pub fn quota_of(v: Valuation, m: usize, n: usize) -> Quota
 }
 
 // A cut into parts that are each worth a share, where dealing gives one: each of n parts in turn takes what it can of what is left, at most the
-// share. What nobody takes is in part 0.
-pub fn dealt(v: Valuation, m: usize, n: usize, share: usize) -> Option<[u8; 64]>
+// share. What nobody takes is in part 0. Where a part cannot be worth the share, the error is the cut so far.
+pub fn dealt(v: Valuation, m: usize, n: usize, share: usize) -> Result<[u8; 64], [u8; 64]>
     requires { (m ≤ 64) × (1 ≤ n) × (n ≤ 12) }
-    ensures { IfSome result (Dealt m n v share) }
+    ensures { MatchResult result (Dealt m n v share) (InParts m n) }
 {
     let mut left = sets::all_below(m);
     let mut part = [0u8; 64];
     for p in 0..n {
         let bundle = kinds::grown(v, m, 0, left, share);
         if sets::size(bundle) < share {
-            return None;
+            return Err(part);
         }
         sets::assign(&mut part, bundle, p as u8);
         left = sets::minus(left, bundle);
     }
-    Some(part)
+    Ok(part)
 }

@@ -61,11 +61,11 @@ pub fn share_of(v: Valuation, m: usize, n: usize) -> Shared
     let q = quota_of(v, m, n);
     let share = q.share as u8;
     match dealt(v, m, n, q.share) {
-        Some(part) => Shared {
+        Ok(part) => Shared {
             share,
             bound: q.bound,
             part,
         },
-        None => searched(v, m, n, share),
+        Err(_) => searched(v, m, n, share),
     }
 }

@@ -53,11 +53,11 @@ pub fn worth_of(v: Valuation, m: usize, set: u64) -> usize
     requires { m ≤ 64 }
     ensures { result ≡ worth (matroid_of m v) (bit set) }
 {
+    let whole = sets::either(sets::both(set, v.usable), v.glued);
+    let worth = channels::worth(&v.team, m, whole);
     if !v.stands(m) {
         return 0;
     }
-    let whole = sets::either(sets::both(set, v.usable), v.glued);
-    let worth = channels::worth(&v.team, m, whole);
     worth - sets::size_below(m, v.glued)
 }
 
@@ -66,10 +66,10 @@ pub fn gains_of(v: Valuation, m: usize, set: u64) -> u64
     requires { m ≤ 64 }
     ensures { (matroid_of m v).Indep (bit set) → MayJoin (matroid_of m v) (bit set) result }
 {
+    let free = channels::gains(&v.team, m, sets::either(set, v.glued));
     if !v.stands(m) {
         return 0;
     }
-    let free = channels::gains(&v.team, m, sets::either(set, v.glued));
     sets::both(free, v.usable)
 }
 
@@ -78,10 +78,13 @@ pub fn grown(v: Valuation, m: usize, set: u64, from: u64, most: usize) -> u64
     requires { m ≤ 64 }
     ensures { Grown (matroid_of m v) set from most result }
 {
-    if most == 0 || !v.stands(m) {
+    if most == 0 {
         return set;
     }
     let offered = sets::both(from, v.usable);
     let larger = channels::grown(&v.team, m, sets::either(set, v.glued), offered, most);
+    if !v.stands(m) {
+        return set;
+    }
     sets::either(set, sets::minus(larger, v.glued))
 }

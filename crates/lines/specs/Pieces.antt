@@ -1,5 +1,5 @@
 -- What the iterators over a text give.
-use Rattle.std.specs.Prelude.{◌≡◌, ◌==◌, ◌+◌, ◌-◌, ◌*◌, ◌&&◌, ℕ, List, [], drop, nat_le, slice_index, Option, MatchOption, IfSome, if◌then◌else◌}
+use Rattle.std.specs.Prelude.{◌≡◌, ◌==◌, ◌≤◌, ◌+◌, ◌-◌, ◌*◌, ◌&&◌, ℕ, List, [], drop, length, nat_le, slice_index, Option, MatchOption, IfSome, if◌then◌else◌}
 use Rattle.std.specs.List.{after_first, before_first, prefix_len}
 use Rattle.std.specs.Borrow.{Bor}
 use Rattle.lines.specs.declared.pieces.Pieces.{Pieces}
@@ -17,4 +17,4 @@ digit_of b = if nat_le 48 b && nat_le b 57 then b - 48 else (if nat_le 97 b && n
 -- A byte stands as two digits after the spaces, and the next after those.
 abbrev pub GivesByte : Bytes → Option ℕ → Bytes → Type 0
 GivesByte old r new = let text = drop (prefix_len (λ b. b == 32) old.rest.now) old.rest.now in
-    IfSome r (λ byte. (byte ≡ digit_of (slice_index text 0) * 16 + digit_of (slice_index text 1)) × (new.rest.now ≡ drop 2 text))
+    IfSome r (λ byte. (2 ≤ length text) × (byte ≡ digit_of (slice_index text 0) * 16 + digit_of (slice_index text 1)) × (new.rest.now ≡ drop 2 text))

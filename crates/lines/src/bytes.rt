@@ -1,6 +1,7 @@
 // Bytes that a text writes as pairs of hexadecimal digits, with spaces between them or none.
 ghost use Rattle.std.specs.Prelude.{◌≡◌, ◌<◌, ◌≤◌, IfSome, length};
 ghost use Rattle.std.specs.Iterator.{at_most};
+ghost use Rattle.lines.specs.Counts.{IsPrefixLen};
 ghost use Rattle.lines.specs.Pieces.{GivesByte, digit_of};
 
 // The bytes that are still to come, up to where no pair stands.
@@ -45,18 +46,26 @@ impl Iterator for Bytes<'_> {
     }
 }
 
-// The bytes that a text writes, at the start of a lent space: as many as it has room for.
-pub fn decoded<'a>(text: &[u8], space: &'a mut [u8]) -> &'a mut [u8]
-    ensures { length result.now ≤ length space.old }
+// Puts the bytes that a text writes at the start of a lent buffer, as many as it has room for, and answers how many.
+pub fn decode(text: &[u8], out: &mut [u8]) -> usize
+    ensures { IsPrefixLen result out.new }
 {
     let mut bytes = of(text);
     let mut count: usize = 0;
-    for place in space.iter_mut() {
+    for place in out.iter_mut() {
         let Some(byte) = bytes.next() else {
             break;
         };
         *place = byte;
         count += 1;
     }
+    count
+}
+
+// The bytes that a text writes, at the start of a lent space: as many as it has room for.
+pub fn decoded<'a>(text: &[u8], space: &'a mut [u8]) -> &'a mut [u8]
+    ensures { length result.now ≤ length space.old }
+{
+    let count = decode(text, space);
     &mut space[..count]
 }

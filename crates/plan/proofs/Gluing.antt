@@ -2,15 +2,12 @@
 use Prim.Native.Nat.{ℕ, zero, suc, ◌+◌, ◌^◌, ◌≤◌, ◌<◌}
 use mathlib.Core.Path.{◌≡◌, refl, sym, ap, ◌∙◌, subst, subst⁻¹}
 use mathlib.Core.Bool.{Bool, true, false, ◌&&◌, not, true≢false}
-use Rattle.std.specs.Cmp.Lexicographic.{same_text, other_text}
 use Rattle.matroid.specs.Decide.{is_yes}
 use mathlib.Core.List.{List}
 use native.Mathlib.Omega.{arith}
 use native.Mathlib.Decide.{ℕ_discrete, dec_lt}
 use lib.Dec.{T, eqb, ltb}
-use lib.ListN.{length, get_or, replicate, get_or-replicate}
-use lib.Pointwise.{pointwise}
-use lib.Seq.{ext_get_or}
+use lib.ListN.{length, get_or}
 use borrow.Author.Tests.{eq-eqb, ne_eqb, eqb-true, lt-ltb, le-ltb, ltb-false}
 use Rattle.matroid.specs.Taut.{T→true, and_right}
 use Rattle.matroid.specs.Set.{Set, none, ◌∖◌, under, one, size, Within}
@@ -59,6 +56,16 @@ one_falls (suc n) A t l e = go (λ (b : t < n). one_falls n A t b e) (ℕ_discre
     go rest (yes same) = let last : one (A n) ≡ 1 = ap one (ap A (sym same) ∙ e) in omega arith
     go rest (no d) = let below = rest (omega arith) in omega arith
 
+-- the glued instruments of a table, counted one by one
+pub count_next : (A : Set) (i : ℕ) → size (i + 1) A ≡ size i A + one (A i)
+count_next A i = let e : i + 1 ≡ suc i = omega arith in ap (λ (k : ℕ). size k A) e
+
+pub glued_here : (glue : List ℕ) (i d : ℕ) → i < length glue → (get_or glue i d ≡ 255 → ⊥) → one (named glue i) ≡ 1
+glued_here glue i d l n = ap (λ (b : Bool). one (not b)) (sym (entry_here glue 255 i d l) ∙ ne_eqb (get_or glue i d) 255 n)
+
+pub free_here : (glue : List ℕ) (i d : ℕ) → i < length glue → get_or glue i d ≡ 255 → one (named glue i) ≡ 0
+free_here glue i d l e = ap (λ (b : Bool). one (not b)) (sym (entry_here glue 255 i d l) ∙ eq-eqb (get_or glue i d) 255 e)
+
 -- no instrument of a table is glued where none is counted
 none_glued : (glue : List ℕ) (j : ℕ) → ltb 0 (size 64 (named glue)) ≡ false → j < 64 → named glue j ≡ false
 none_glued glue j e b = free (named glue j) refl
@@ -66,23 +73,6 @@ none_glued glue j e b = free (named glue j) refl
     free : (x : Bool) → named glue j ≡ x → x ≡ false
     free false t = refl
     free true t = let some = one_falls 64 (named glue) j b t in let top = ltb-false 0 (size 64 (named glue)) e in absurd (omega arith)
-
--- whether one is, by whether the table is that of none
-pub some_glued : (glue : List ℕ) → length glue ≡ 64 → (same : Bool) → same ≡ pointwise eqb glue (replicate 64 255) → not same ≡ ltb 0 (size 64 (named glue))
-some_glued glue long true is = let e = same_text glue (replicate 64 255) is in rw e refl
-some_glued glue long false is = go (ltb 0 (size 64 (named glue))) refl
-  where
-    go : (b : Bool) → ltb 0 (size 64 (named glue)) ≡ b → true ≡ b
-    go true e = refl
-    go false e =
-        absurd (other_text glue (replicate 64 255) is (ext_get_or 255 glue (replicate 64 255) long (λ j b. free (get_or glue j 255) (none_glued glue j e (omega arith)) ∙ sym (get_or-replicate 64 j 255 255 (omega arith)))))
-      where
-        free : (x : ℕ) → not (eqb x 255) ≡ false → x ≡ 255
-        free x n = at (eqb x 255) refl n
-          where
-            at : (b : Bool) → eqb x 255 ≡ b → not b ≡ false → x ≡ 255
-            at true t n = eqb-true x 255 t
-            at false t n = absurd (true≢false n)
 
 -- where none is counted, there is none
 pub word_free : (glue : List ℕ) (m : ℕ) → m ≤ 64 → ltb 0 (size 64 (named glue)) ≡ false → 0 ≡ word m (named glue)

@@ -170,13 +170,18 @@ fn valuation_of(r: &Reading, t: usize, own: u64, all: u64) -> Valuation
 
 // The valuation of each team of a plan, and one of no kind beyond the last. Which instruments a team can use and which are glued to it is found
 // here, once.
+// Kept (point 2): no call of `filled`, which copies the table once more, so that Check would need 4 KB of stack more.
 pub fn valuations_of(r: Reading) -> [Valuation; 12]
     requires { Valid r }
     ensures { result ≡ valuations_of r }
 {
     let words = usable::words(r.shelf, r.m, r.days, r.n);
     let all = glue::of_all(r.glue, r.m);
-    filled(r.n, kinds::blank(), |t| valuation_of(&r, t, words[t], all))
+    let mut valuations = [kinds::blank(); 12];
+    for (t, place) in valuations[..r.n].iter_mut().enumerate() {
+        *place = valuation_of(&r, t, words[t], all);
+    }
+    valuations
 }
 
 // The set of the teams of a plan that are present.

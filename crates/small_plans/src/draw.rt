@@ -32,7 +32,7 @@ pub struct Member {
 }
 
 // A plan of m instruments and of the first n of three teams. In the pool SHELFs name the instruments as FITs do in a MOUNTS team.
-#[derive(Drop)]
+#[derive(Clone, Copy)]
 pub struct Drawing {
     pub m: usize,
     pub n: usize,

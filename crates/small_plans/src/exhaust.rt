@@ -11,7 +11,7 @@ use std::array;
 #[derive(Clone, Copy)]
 pub struct Seat {
     pub here: bool,
-    worths: [u64; 32],
+    worths: [u8; 32],
 }
 
 const EMPTY: Seat = Seat {
@@ -28,7 +28,7 @@ pub struct Lot {
 
 // What the search finds of a plan of m instruments and n teams: the greatest total, the bundles of the first division that comes to it, and each
 // team's share.
-#[derive(Drop)]
+#[derive(Clone, Copy)]
 pub struct Found {
     pub m: usize,
     pub n: usize,
@@ -40,8 +40,10 @@ pub struct Found {
 
 impl Found {
     // The number p of the teams that are present.
-    pub fn present(&self) -> usize {
-        present(&self.seats)
+    pub fn present(&self) -> usize
+        ensures { result ≤ self.now.n }
+    {
+        present(&self.seats, self.n)
     }
 }
 
@@ -53,13 +55,14 @@ impl Lot {
 }
 
 // The size of the largest independent part of a set, by which sets of five instruments are independent.
-fn largest(free: &[bool; 32], set: u64) -> u64 {
-    (0..32)
+fn largest(free: &[bool; 32], set: u64) -> u8 {
+    let size = (0..32)
         .zip(free)
         .filter(|(part, free)| **free && sets::minus(*part, set) == 0)
-        .map(|(part, _)| sets::size(part) as u64)
+        .map(|(part, _)| sets::size(part))
         .max()
-        .unwrap_or(0)
+        .unwrap_or(0);
+    u8::try_from(size).unwrap_or(u8::MAX)
 }
 
 impl Seat {
@@ -78,8 +81,10 @@ impl Seat {
     }
 
     // What a set is worth to the team.
-    pub fn worth(&self, set: u64) -> u64 {
-        self.worths[(set % 32) as usize]
+    pub fn worth(&self, set: u64) -> u64
+        ensures { result ≤ 255 }
+    {
+        u64::from(self.worths[(set % 32) as usize])
     }
 
     // What the worst of the first p parts is worth to the team.
@@ -113,9 +118,11 @@ fn seats(d: &Drawing) -> [Seat; 4] {
     seats
 }
 
-// How many teams are present: those with channels above 0.
-fn present(seats: &[Seat; 4]) -> usize {
-    seats.iter().filter(|seat| seat.here).count()
+// How many of the first n teams are present: those with channels above 0.
+fn present(seats: &[Seat; 4], n: usize) -> usize
+    ensures { result ≤ n }
+{
+    seats.iter().take(n).filter(|seat| seat.here).count()
 }
 
 // The parts that a number cuts five instruments into: its digit g, to a base of up to 4, is the part of instrument g.
@@ -163,7 +170,7 @@ fn best_division(seats: &[Seat; 4], n: usize) -> [u64; 4]
 pub fn search(d: &Drawing) -> Found {
     let seats = seats(d);
     let bundles = best_division(&seats, d.n);
-    let p = present(&seats);
+    let p = present(&seats, d.n);
     Found {
         m: d.m,
         n: d.n,

@@ -3,7 +3,6 @@ use crate::counts::Counts;
 use crate::draw::{Drawing, Member};
 use crate::{compare, exhaust, glue, trial};
 use rule::random::Random;
-use std::alloc::{AllocError, Global};
 
 // What the glued instruments of a plan add to the counts, beside the same plan with no GLUE.
 fn beside(d: &Drawing) -> Counts {
@@ -24,19 +23,19 @@ fn beside(d: &Drawing) -> Counts {
 }
 
 // What a plan that is to be refused with 18 adds to the counts.
-fn fallen(alloc: Global, d: &Drawing) -> Result<Counts, AllocError> {
-    Ok(Counts {
+fn fallen(d: &Drawing) -> Counts {
+    Counts {
         fallen: 1,
-        fallen_wrong: u64::from(!trial::refused(alloc, d)?),
+        fallen_wrong: u64::from(!trial::refused(d)),
         ..Counts::default()
-    })
+    }
 }
 
 // The counts of one drawn plan with glued instruments.
-pub fn of_plan(alloc: Global, d: &Drawing, random: Random) -> Result<Counts, AllocError> {
+pub fn of_plan(d: &Drawing, random: Random) -> Counts {
     if glue::all_stand(d) {
-        Ok(trial::run(alloc, d, random)? + beside(d))
+        trial::run(d, random) + beside(d)
     } else {
-        fallen(alloc, d)
+        fallen(d)
     }
 }

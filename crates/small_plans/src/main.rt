@@ -6,7 +6,6 @@ use counts::Counts;
 use draw::Family;
 use loan::Ends;
 use rule::random::Random;
-use std::alloc::{AllocError, Global};
 use std::io;
 use team::Kind;
 
@@ -160,38 +159,38 @@ enum Sort {
 }
 
 // What one plan without loan days adds to the counts.
-fn plain(alloc: Global, s: &Sample, random: &mut Random) -> Result<Counts, AllocError> {
+fn plain(s: &Sample, random: &mut Random) -> Counts {
     let d = draw::drawn(&s.family, random);
-    trial::run(alloc, &d, *random)
+    trial::run(&d, *random)
 }
 
 // What one plan with loan days adds to the counts.
-fn lent(alloc: Global, s: &Sample, random: &mut Random) -> Result<Counts, AllocError> {
+fn lent(s: &Sample, random: &mut Random) -> Counts {
     let d = loan::lent(&draw::drawn(&s.family, random), &s.ends, random);
-    Ok(trial::run(alloc, &d, *random)? + ends::of_plan(&d))
+    trial::run(&d, *random) + ends::of_plan(&d)
 }
 
 // What one plan with loan days and glued instruments adds to the counts.
-fn glued(alloc: Global, s: &Sample, random: &mut Random) -> Result<Counts, AllocError> {
+fn glued(s: &Sample, random: &mut Random) -> Counts {
     let d = loan::lent(&draw::drawn(&s.family, random), &s.ends, random);
     let d = glue::glued(&d, random);
-    gained::of_plan(alloc, &d, *random)
+    gained::of_plan(&d, *random)
 }
 
 // Kept (point 7): tried, a closure that takes a sample and a `&mut Random` gets no proof where it is handed on to the loop over plans.
 impl Sort {
     // What the plans of a sample add to the counts.
-    fn counted(self, alloc: Global, s: &Sample) -> Result<Counts, AllocError> {
+    fn counted(self, s: &Sample) -> Counts {
         let mut random = Random::new(s.seed);
         let mut counts = Counts::default();
         for _ in 0..1000 {
             counts += match self {
-                Sort::Plain => plain(alloc, s, &mut random)?,
-                Sort::Lent => lent(alloc, s, &mut random)?,
-                Sort::Glued => glued(alloc, s, &mut random)?,
+                Sort::Plain => plain(s, &mut random),
+                Sort::Lent => lent(s, &mut random),
+                Sort::Glued => glued(s, &mut random),
             };
         }
-        Ok(counts)
+        counts
     }
 
     // Shows counts.
@@ -205,15 +204,10 @@ impl Sort {
 }
 
 // Shows the counts of each sample under its name, and of all together under theirs.
-fn run(
-    rt: &(impl AllocGlobal + Print),
-    sort: Sort,
-    samples: &[Sample],
-    name: &str,
-) -> io::Result<()> {
+fn run(rt: &impl Print, sort: Sort, samples: &[Sample], name: &str) -> io::Result<()> {
     let mut all = Counts::default();
     for sample in samples {
-        let counts = sort.counted(rt.alloc(), sample)?;
+        let counts = sort.counted(sample);
         println!(rt; "{}", sample.name)?;
         sort.show(rt, &counts)?;
         all += counts;

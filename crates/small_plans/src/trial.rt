@@ -5,7 +5,6 @@ use crate::exhaust::Found;
 use crate::{changes, compare, encode, exhaust};
 use command::refusal::Refusal;
 use rule::random::Random;
-use std::alloc::{AllocError, Global};
 
 // What stands in each byte before Build.
 const FILLER: u8 = 0xaa;
@@ -33,19 +32,20 @@ fn of_plan(f: &Found, plan: &[u8], random: Random) -> Counts {
 }
 
 // The counts of one drawn plan, with changes drawn after it.
-pub fn run(alloc: Global, d: &Drawing, random: Random) -> Result<Counts, AllocError> {
+pub fn run(d: &Drawing, random: Random) -> Counts {
     let f = exhaust::search(d);
-    let plan = encode::plan(alloc, d)?;
-    Ok(compare::of_plan(&f) + of_plan(&f, &plan, random))
+    let plan = encode::plan(d);
+    compare::of_plan(&f) + of_plan(&f, plan.bytes(), random)
 }
 
 // Whether Build refuses one drawn plan with 18 at its END, and writes nothing.
-pub fn refused(alloc: Global, d: &Drawing) -> Result<bool, AllocError> {
-    let plan = encode::plan(alloc, d)?;
+pub fn refused(d: &Drawing) -> bool {
+    let encoded = encode::plan(d);
+    let plan = encoded.bytes();
     let mut space = [FILLER; 128];
-    let end = match builder::build(&plan, &mut space) {
+    let end = match builder::build(plan, &mut space) {
         Err(Refusal { number: 18, place }) => plan.len().checked_sub(1) == Some(place),
         _ => false,
     };
-    Ok(end && written(&space) == 0)
+    end && written(&space) == 0
 }

@@ -1,11 +1,15 @@
 // Sizes and shortfall: those that a holding carries and, behind `|`, those that a count of its owners made here comes to. Printed are the sizes
 // of the teams, and then `short` and the shortfall: ` [1 0 2 short 3 | 1 0 2 short 3]`, and ` [short 0 | short 0]` where there is no team. A size
 // that is carried beyond the last team is 0, and would be printed too where it is not.
+ghost use Rattle.std.specs.Prelude.{◌≤◌};
+
 use holding::Holding;
 use std::io;
 
 // How many of m instruments have the owner t.
-fn size(owner: &[u8; 64], m: usize, t: usize) -> usize {
+fn size(owner: &[u8; 64], m: usize, t: usize) -> usize
+    ensures { result ≤ 64 }
+{
     owner
         .iter()
         .take(m)

@@ -1,5 +1,5 @@
 // The verb `team HEX`: a count of instruments, a kind, a set of eight bytes, and then commands as a plan has them, with any operands.
-ghost use Rattle.std.specs.Prelude.{◌≤◌};
+ghost use Rattle.std.specs.Prelude.{◌+◌, ◌^◌, ◌<◌, ◌≤◌};
 
 use crate::beside;
 use crate::draw::Case;
@@ -42,7 +42,7 @@ pub fn count(bytes: &[u8]) -> usize
 
 // The set of the eight bytes at an offset, low byte first.
 pub fn set_at(bytes: &[u8], from: usize) -> u64
-    requires { from ≤ 18 }
+    requires { from + 7 < 2 ^ 64 }
 {
     u64::from_le_bytes(array::from_fn(|k| byte_at(bytes, from + k)))
 }

@@ -19,7 +19,7 @@ pub struct Family {
 }
 
 // A valuation, a count of instruments and a set, and the instruments that are usable by the definition.
-#[derive(Drop)]
+#[derive(Clone, Copy)]
 pub struct Case {
     pub valuation: Valuation,
     pub m: usize,
