@@ -14,7 +14,10 @@ GivesPiece old r new = MatchOption r (old.rest.now ≡ []) (λ piece.
 abbrev pub digit_of : ℕ → ℕ
 digit_of b = if nat_le 48 b && nat_le b 57 then b - 48 else (if nat_le 97 b && nat_le b 102 then b - 87 else (if nat_le 65 b && nat_le b 70 then b - 55 else 16))
 
+-- Two digits stand at the start of a text and write a byte, and what is left stands after them.
+abbrev pub Pair : List ℕ → ℕ → List ℕ → Type 0
+Pair text byte left = (2 ≤ length text) × (byte ≡ digit_of (slice_index text 0) * 16 + digit_of (slice_index text 1)) × (left ≡ drop 2 text)
+
 -- A byte stands as two digits after the spaces, and the next after those.
 abbrev pub GivesByte : Bytes → Option ℕ → Bytes → Type 0
-GivesByte old r new = let text = drop (prefix_len (λ b. b == 32) old.rest.now) old.rest.now in
-    IfSome r (λ byte. (2 ≤ length text) × (byte ≡ digit_of (slice_index text 0) * 16 + digit_of (slice_index text 1)) × (new.rest.now ≡ drop 2 text))
+GivesByte old r new = IfSome r (λ byte. Pair (drop (prefix_len (λ b. b == 32) old.rest.now) old.rest.now) byte new.rest.now)

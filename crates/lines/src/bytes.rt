@@ -2,7 +2,7 @@
 ghost use Rattle.std.specs.Prelude.{◌≡◌, ◌<◌, ◌≤◌, IfSome, length};
 ghost use Rattle.std.specs.Iterator.{at_most};
 ghost use Rattle.lines.specs.Counts.{IsPrefixLen};
-ghost use Rattle.lines.specs.Pieces.{GivesByte, digit_of};
+ghost use Rattle.lines.specs.Pieces.{GivesByte, Pair, digit_of};
 
 // The bytes that are still to come, up to where no pair stands.
 #[derive(Clone, Copy)]
@@ -18,7 +18,7 @@ pub fn of(text: &[u8]) -> Bytes<'_>
 }
 
 // The value of a hexadecimal digit in either case.
-fn digit(byte: u8) -> Option<u8>
+pub fn digit(byte: u8) -> Option<u8>
     ensures { IfSome result (λ d. (d < 16) × (d ≡ digit_of byte)) }
 {
     match byte {
@@ -29,6 +29,17 @@ fn digit(byte: u8) -> Option<u8>
     }
 }
 
+// The byte that the first two bytes of a text write, and what stands after them.
+pub fn pair(text: &[u8]) -> Option<(u8, &[u8])>
+    ensures { IfSome result (λ read. Pair text.now read.0 read.1.now) }
+{
+    let [high, low, rest @ ..] = text else {
+        return None;
+    };
+    let byte = digit(*high)? * 16 + digit(*low)?;
+    Some((byte, rest))
+}
+
 impl Iterator for Bytes<'_> {
     type Item = u8;
 
@@ -37,10 +48,7 @@ impl Iterator for Bytes<'_> {
     ghost remaining = { λ s. at_most (length s.rest.now) };
 
     fn next(&mut self) -> Option<u8> {
-        let [high, low, rest @ ..] = crate::trimmed(self.rest) else {
-            return None;
-        };
-        let byte = digit(*high)? * 16 + digit(*low)?;
+        let (byte, rest) = pair(crate::trimmed(self.rest))?;
         self.rest = rest;
         Some(byte)
     }

@@ -25,15 +25,23 @@ pub fn split(text: &[u8], byte: u8) -> (&[u8], &[u8])
     }
 }
 
+// A text without the bytes `byte` that it starts with.
+pub fn skip(text: &[u8], byte: u8) -> &[u8]
+    ensures short { length result.now ≤ length text.now }
+    ensures left { result.now ≡ drop (prefix_len (λ b. b == byte) text.now) text.now }
+{
+    match text.iter().position(|b| *b != byte) {
+        Some(start) => &text[start..],
+        None => &[],
+    }
+}
+
 // A text without the spaces that it starts with.
 pub fn trimmed(text: &[u8]) -> &[u8]
     ensures short { length result.now ≤ length text.now }
     ensures left { result.now ≡ drop (prefix_len (λ b. b == 32) text.now) text.now }
 {
-    match text.iter().position(|b| *b != b' ') {
-        Some(start) => &text[start..],
-        None => &[],
-    }
+    skip(text, b' ')
 }
 
 // The first word of a line that starts with no space.

@@ -63,30 +63,31 @@ fn plain_share(seat: &Seat, p: usize) -> u64 {
     }
 }
 
-// How many shares that the search finds are others than those of a rule.
-fn other<F: Fn(&Seat) -> u64>(f: &Found, rule: F) -> u64
+// How many shares are others than those of a rule.
+fn other<F: Fn(&Seat) -> u64>(seats: &[Seat; 4], lots: &[Lot; 4], rule: F) -> u64
     requires { F.IsAlwaysCallable rule }
 {
-    f.seats
+    seats
         .iter()
-        .zip(&f.lots)
+        .zip(lots)
         .filter(|(seat, lot)| lot.share != rule(*seat))
         .count() as u64
 }
 
-// What a plan adds to the counts, whatever its sheet.
-pub fn of_plan(f: &Found) -> Counts {
-    let p = f.present();
-    let away = f.seats.iter().take(f.n).filter(|seat| !seat.here).count();
+// What a plan of the first n teams adds to the counts, whatever its sheet.
+// Kept (point 5): no Found, since no bound of it is asked for.
+pub fn of_plan(n: usize, seats: &[Seat; 4], lots: &[Lot; 4]) -> Counts {
+    let p = exhaust::present(seats, n);
+    let away = seats.iter().take(n).filter(|seat| !seat.here).count();
     Counts {
         plans: 1,
         plans_away: u64::from(away > 0),
         plans_all_away: u64::from(p == 0),
-        teams: f.n as u64,
+        teams: n as u64,
         away: away as u64,
-        short_best: u64::from(short(&f.lots) > 0),
-        apart: other(f, |seat| plain_share(seat, p)),
-        raised: other(f, |seat| seat.share(f.n)),
+        short_best: u64::from(short(lots) > 0),
+        apart: other(seats, lots, |seat| plain_share(seat, p)),
+        raised: other(seats, lots, |seat| seat.share(n)),
         ..Counts::default()
     }
 }

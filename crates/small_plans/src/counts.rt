@@ -162,19 +162,17 @@ impl Counts {
         self.show_changed(rt)
     }
 
-    // Those, and the loan days on a line.
+    // The loan days, on a line.
     // Kept (point 2): two texts with other counts in them, which one function would take as its arguments, text and all.
-    pub fn show_lent(&self, rt: &impl Print) -> io::Result<()> {
-        self.show(rt)?;
+    pub fn show_days(&self, rt: &impl Print) -> io::Result<()> {
         println!(rt;
             "  a team and an instrument: out of its days {}, by one day {}, within with an equal end {}; other than without SHELF: shares {}, totals {}",
             self.barred, self.near, self.level, self.lower_shares, self.lower_totals
         )
     }
 
-    // The same groups, and the glued instruments on a line.
+    // The glued instruments, on a line.
     pub fn show_glued(&self, rt: &impl Print) -> io::Result<()> {
-        self.show(rt)?;
         println!(rt;
             "  plans refused with 18 besides {}, differences {}; glued instruments of the others {}; other than without GLUE: shares {}, totals {}",
             self.fallen, self.fallen_wrong, self.glued, self.gained_shares, self.gained_totals

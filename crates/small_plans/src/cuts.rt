@@ -18,7 +18,7 @@ fn holds(f: &Found, sheet: &[u8], t: usize, share: u64) -> bool
     requires { t < 4 }
 {
     let p = f.present();
-    let parts = stated::named(f, sheet, stated::page_start(f.m, t) + 11);
+    let parts = stated::named(sheet, stated::page_start(f.m, t) + 11, f.m);
     size(&parts, p) == f.m && f.seats[t].least(&parts, p) >= share
 }
 

@@ -8,11 +8,12 @@ use team::{Kind, Team};
 
 // What each part of a plan is drawn from, one of eight each: the count of instruments, the count of teams, and a team's kind, channels, caps,
 // classes, joints and mounts; a byte of the mounts stands for eight.
+// Kept (point 1): the kinds are bytes, since a team may be drawn that a byte of no kind opens.
 #[derive(Clone, Copy)]
 pub struct Family {
     pub counts: [u8; 8],
     pub teams: [u8; 8],
-    pub kinds: [Kind; 8],
+    pub kinds: [u8; 8],
     pub channels: [u8; 8],
     pub caps: [u8; 8],
     pub classes: [u8; 8],
@@ -38,7 +39,7 @@ pub struct Drawing {
     pub n: usize,
     pub pool: Team,
     pub members: [Member; 3],
-    ghost counts: { (m ≤ 5) × (1 ≤ n) × (n ≤ 3) },
+    ghost counts: { (m ≤ 5) × (n ≤ 3) },
 }
 
 impl Drawing {
@@ -69,17 +70,18 @@ fn other(a: u8, b: u8) -> u8 {
     }
 }
 
-// What the operands of a team of a kind are drawn from.
-fn choice(f: &Family, kind: Kind) -> [u8; 8] {
+// What the operands of a team of a kind are drawn from; those of a team of no kind are a MOUNTS team's.
+fn choice(f: &Family, kind: Option<Kind>) -> [u8; 8] {
     match kind {
-        Kind::Caps => f.classes,
-        Kind::Loops => f.joints,
-        Kind::Mounts => f.mounts,
+        Some(Kind::Caps) => f.classes,
+        Some(Kind::Loops) => f.joints,
+        _ => f.mounts,
     }
 }
 
-// A team of a kind.
-fn of_kind(f: &Family, kind: Kind, random: &mut Random) -> Team {
+// A team of a kind, or of none, by the byte that opens it.
+fn of_kind(f: &Family, byte: u8, random: &mut Random) -> Team {
+    let kind = Kind::try_from(byte).ok();
     let own = choice(f, kind);
     let first = entries(&own, random);
     let drawn = entries(&own, random);
@@ -88,11 +90,11 @@ fn of_kind(f: &Family, kind: Kind, random: &mut Random) -> Team {
     let named = entries(&NAMED, random);
     let caps = entries(&f.caps, random);
     let second = match kind {
-        Kind::Loops => array::from_fn(|g| other(first[g], drawn[g])),
+        Some(Kind::Loops) => array::from_fn(|g| other(first[g], drawn[g])),
         _ => drawn,
     };
     Team {
-        kind: u8::from(kind),
+        kind: byte,
         channels: random.pick(&f.channels),
         cap: caps_of(&caps),
         named,
@@ -106,15 +108,17 @@ fn of_kind(f: &Family, kind: Kind, random: &mut Random) -> Team {
 
 // A team, with no GLUE.
 fn one(f: &Family, random: &mut Random) -> Member {
-    let kind = random.pick(&f.kinds);
+    let byte = random.pick(&f.kinds);
     Member {
-        team: of_kind(f, kind, random),
+        team: of_kind(f, byte, random),
         glued: 0,
     }
 }
 
 // A plan of a family: up to 5 instruments and 1 to 3 teams, with no SHELF, no DAYS and no GLUE.
-pub fn drawn(f: &Family, random: &mut Random) -> Drawing {
+pub fn drawn(f: &Family, random: &mut Random) -> Drawing
+    ensures { (result.m ≤ 5) × (1 ≤ result.n) × (result.n ≤ 3) }
+{
     let members = array::from_fn(|_| one(f, random));
     let m = usize::from(random.pick(&f.counts)).min(5);
     let n = usize::from(random.pick(&f.teams)).clamp(1, 3);

@@ -11,7 +11,7 @@ use std::array;
 #[derive(Clone, Copy)]
 pub struct Seat {
     pub here: bool,
-    worths: [u8; 32],
+    pub worths: [u8; 32],
 }
 
 const EMPTY: Seat = Seat {
@@ -68,7 +68,7 @@ fn largest(free: &[bool; 32], set: u64) -> u8 {
 impl Seat {
     // A team of a plan, by the pool's SHELFs and the GLUEs. A set with a member at or above m is never independent.
     fn of(d: &Drawing, member: &Member) -> Seat {
-        let site = glue::site(d, member);
+        let site = glue::site(&d.pool, &d.members, member);
         let all = sets::all_below(d.m);
         let free = array::from_fn(|k| {
             let set = k as u64;
@@ -119,7 +119,7 @@ fn seats(d: &Drawing) -> [Seat; 4] {
 }
 
 // How many of the first n teams are present: those with channels above 0.
-fn present(seats: &[Seat; 4], n: usize) -> usize
+pub fn present(seats: &[Seat; 4], n: usize) -> usize
     ensures { result ≤ n }
 {
     seats.iter().take(n).filter(|seat| seat.here).count()

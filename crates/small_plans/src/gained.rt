@@ -15,7 +15,7 @@ fn beside(d: &Drawing) -> Counts {
     let f = exhaust::search(d);
     let g = exhaust::search(&free);
     Counts {
-        glued: sets::size(glue::anyone(d)) as u64,
+        glued: sets::size(glue::anyone(&d.members)) as u64,
         gained_shares: compare::different(&f.lots, &g.lots),
         gained_totals: u64::from(f.total != g.total),
         ..Counts::default()
@@ -33,7 +33,7 @@ fn fallen(d: &Drawing) -> Counts {
 
 // The counts of one drawn plan with glued instruments.
 pub fn of_plan(d: &Drawing, random: Random) -> Counts {
-    if glue::all_stand(d) {
+    if glue::all_stand(&d.pool, &d.members, d.n) {
         trial::run(d, random) + beside(d)
     } else {
         fallen(d)

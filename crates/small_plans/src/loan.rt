@@ -1,36 +1,32 @@
 // Loan days for a drawn plan: a SHELF for some of its instruments and a DAYS for some of its teams.
+ghost use Rattle.std.specs.Prelude.{◌≤◌};
+
 use crate::draw::Drawing;
 use rule::loan;
-use rule::loan::{DAYS, SHELF};
 use rule::random::Random;
 use team::Team;
 
-// What the days are drawn from, one of eight each: whether an instrument and a team have days, and each end of them.
+// What the days are drawn from, one of eight each: the command of an instrument and of a team, 255 for none, and each end of their days.
+// Kept (point 1): bytes, since a command is drawn by its byte, whichever it is.
 #[derive(Clone, Copy)]
 pub struct Ends {
-    pub shelf: [bool; 8],
+    pub shelf: [u8; 8],
     pub shelf_from: [u16; 8],
     pub shelf_to: [u16; 8],
-    pub days: [bool; 8],
+    pub days: [u8; 8],
     pub from: [u16; 8],
     pub to: [u16; 8],
 }
 
-// A drawn command, by its byte, and none where it is not to be.
-fn named(
-    byte: u8,
-    some: &[bool; 8],
-    from: &[u16; 8],
-    to: &[u16; 8],
-    random: &mut Random,
-) -> [u8; 5] {
-    let some = random.pick(some);
+// A drawn command with its days.
+fn named(commands: &[u8; 8], from: &[u16; 8], to: &[u16; 8], random: &mut Random) -> [u8; 5] {
+    let byte = random.pick(commands);
     let from = random.pick(from);
     let to = random.pick(to);
-    if some {
-        loan::command(byte, from, to)
-    } else {
+    if byte == 255 {
         [255; 5]
+    } else {
+        loan::command(byte, from, to)
     }
 }
 
@@ -38,18 +34,21 @@ fn named(
 fn pool_of(e: &Ends, random: &mut Random) -> Team {
     let mut pool = team::blank();
     for g in 0..5 {
-        let shelf = named(SHELF, &e.shelf, &e.shelf_from, &e.shelf_to, random);
+        let shelf = named(&e.shelf, &e.shelf_from, &e.shelf_to, random);
         loan::put_shelf(&mut pool, g, shelf);
     }
     pool
 }
 
 // A drawn plan with loan days.
-pub fn lent(d: &Drawing, e: &Ends, random: &mut Random) -> Drawing {
+pub fn lent(d: &Drawing, e: &Ends, random: &mut Random) -> Drawing
+    requires { 1 ≤ d.now.n }
+    ensures { (result.m ≤ 5) × (1 ≤ result.n) × (result.n ≤ 3) }
+{
     let pool = pool_of(e, random);
     let mut members = d.members;
     for member in members.iter_mut() {
-        member.team.days = named(DAYS, &e.days, &e.from, &e.to, random);
+        member.team.days = named(&e.days, &e.from, &e.to, random);
     }
     Drawing {
         m: d.m,

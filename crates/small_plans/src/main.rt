@@ -5,9 +5,9 @@
 use counts::Counts;
 use draw::Family;
 use loan::Ends;
+use rule::loan::{DAYS, SHELF};
 use rule::random::Random;
 use std::io;
-use team::Kind;
 
 mod away;
 mod changes;
@@ -28,7 +28,7 @@ mod trial;
 const CAPS: Family = Family {
     counts: [5, 5, 5, 5, 4, 3, 1, 0],
     teams: [3, 3, 3, 3, 2, 2, 2, 1],
-    kinds: [Kind::Caps; 8],
+    kinds: [2; 8],
     channels: [0, 0, 1, 2, 2, 3, 5, 255],
     caps: [0, 1, 1, 1, 1, 2, 2, 3],
     classes: [0, 0, 1, 1, 2, 3, 4, 255],
@@ -38,13 +38,13 @@ const CAPS: Family = Family {
 
 // LOOPS teams on few joints.
 const LOOPS: Family = Family {
-    kinds: [Kind::Loops; 8],
+    kinds: [3; 8],
     ..CAPS
 };
 
 // MOUNTS teams on four mounts, each of them the first of a byte.
 const MOUNTS: Family = Family {
-    kinds: [Kind::Mounts; 8],
+    kinds: [8; 8],
     ..CAPS
 };
 
@@ -57,16 +57,7 @@ const MASKS: Family = Family {
 
 // Teams of every kind, whose operands are scarce.
 const MIXED: Family = Family {
-    kinds: [
-        Kind::Caps,
-        Kind::Loops,
-        Kind::Mounts,
-        Kind::Caps,
-        Kind::Loops,
-        Kind::Mounts,
-        Kind::Caps,
-        Kind::Mounts,
-    ],
+    kinds: [2, 3, 8, 2, 3, 8, 2, 8],
     classes: [0, 0, 0, 1, 1, 2, 255, 255],
     joints: [0, 0, 0, 1, 1, 2, 39, 255],
     ..CAPS
@@ -76,16 +67,7 @@ const MIXED: Family = Family {
 const UNEVEN: Family = Family {
     counts: [5; 8],
     teams: [2, 3, 2, 3, 2, 3, 2, 3],
-    kinds: [
-        Kind::Caps,
-        Kind::Caps,
-        Kind::Loops,
-        Kind::Caps,
-        Kind::Mounts,
-        Kind::Loops,
-        Kind::Caps,
-        Kind::Mounts,
-    ],
+    kinds: [2, 2, 3, 2, 8, 3, 2, 8],
     channels: [0, 0, 5, 5, 5, 5, 255, 255],
     caps: [1, 1, 1, 2, 5, 5, 5, 255],
     classes: [0, 0, 1, 1, 1, 2, 2, 255],
@@ -95,10 +77,10 @@ const UNEVEN: Family = Family {
 
 // Days 0 to 9: most ends of the teams' days are shelf ends, or one day off.
 const FEW: Ends = Ends {
-    shelf: [true, true, true, true, true, true, true, false],
+    shelf: [SHELF, SHELF, SHELF, SHELF, SHELF, SHELF, SHELF, 255],
     shelf_from: [0, 0, 1, 1, 2, 2, 3, 4],
     shelf_to: [5, 6, 6, 7, 7, 8, 8, 9],
-    days: [true, true, true, true, true, true, true, false],
+    days: [DAYS, DAYS, DAYS, DAYS, DAYS, DAYS, DAYS, 255],
     from: [1, 2, 2, 3, 3, 3, 4, 4],
     to: [4, 5, 5, 6, 6, 7, 7, 8],
 };
@@ -114,18 +96,18 @@ const WIDE: Ends = Ends {
 
 // Days about 0 and 65,535, more than half of the teams with no DAYS.
 const OPEN: Ends = Ends {
-    shelf: [true, true, true, true, true, false, false, false],
+    shelf: [SHELF, SHELF, SHELF, SHELF, SHELF, 255, 255, 255],
     shelf_from: [0, 0, 0, 0, 0, 0, 1, 2],
     shelf_to: [65535, 65535, 65535, 65535, 65534, 65534, 65533, 1],
-    days: [true, true, true, true, false, false, false, false],
+    days: [DAYS, DAYS, DAYS, DAYS, 255, 255, 255, 255],
     from: [0, 0, 0, 1, 1, 2, 65533, 65534],
     to: [65535, 65535, 65534, 65534, 65533, 65533, 65535, 1],
 };
 
 // No SHELF and no DAYS.
 const NONE: Ends = Ends {
-    shelf: [false; 8],
-    days: [false; 8],
+    shelf: [255; 8],
+    days: [255; 8],
     ..FEW
 };
 
@@ -195,9 +177,10 @@ impl Sort {
 
     // Shows counts.
     fn show(self, rt: &impl Print, counts: &Counts) -> io::Result<()> {
+        counts.show(rt)?;
         match self {
-            Sort::Plain => counts.show(rt),
-            Sort::Lent => counts.show_lent(rt),
+            Sort::Plain => Ok(()),
+            Sort::Lent => counts.show_days(rt),
             Sort::Glued => counts.show_glued(rt),
         }
     }

@@ -12,12 +12,13 @@ pub struct Stated {
     pub lots: [Lot; 4],
 }
 
-// The instruments that the GIVEs or PARTs from an offset on name each of four teams or parts for.
-pub fn named(f: &Found, sheet: &[u8], at: usize) -> [u64; 4]
-    requires { at ≤ 3000 }
+// The instruments that m GIVEs or PARTs from an offset on name each of four teams or parts for.
+// Kept (point 5): a count, for any teams.
+pub fn named(sheet: &[u8], at: usize, m: usize) -> [u64; 4]
+    requires { (at ≤ 3000) × (m ≤ 5) }
 {
     let mut sets = [0; 4];
-    for g in 0..f.m {
+    for g in 0..m {
         let k = usize::from(byte_at(sheet, at + 3 * g + 2));
         if let Some(set) = sets.get_mut(k) {
             *set = sets::with(*set, g);
@@ -45,7 +46,7 @@ fn share(f: &Found, sheet: &[u8], t: usize) -> u64 {
 
 // What a sheet of a plan states.
 pub fn read(f: &Found, sheet: &[u8]) -> Stated {
-    let bundles = named(f, sheet, sheet::give_start(0));
+    let bundles = named(sheet, sheet::give_start(0), f.m);
     Stated {
         total: u64::from(byte_at(sheet, 3)),
         lots: array::from_fn(|t| Lot {

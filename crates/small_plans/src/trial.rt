@@ -35,7 +35,7 @@ fn of_plan(f: &Found, plan: &[u8], random: Random) -> Counts {
 pub fn run(d: &Drawing, random: Random) -> Counts {
     let f = exhaust::search(d);
     let plan = encode::plan(d);
-    compare::of_plan(&f) + of_plan(&f, plan.bytes(), random)
+    compare::of_plan(f.n, &f.seats, &f.lots) + of_plan(&f, plan.bytes(), random)
 }
 
 // Whether Build refuses one drawn plan with 18 at its END, and writes nothing.

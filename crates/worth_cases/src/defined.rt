@@ -42,21 +42,21 @@ pub fn part(c: &Case) -> u64 {
     sets::minus(v.team.joined(c.m, glued, offered), glued)
 }
 
-// The case's valuation with its glued instruments, none of them usable.
-pub fn glued(c: &Case, own: u64) -> Valuation {
+// A valuation with its glued instruments, none of them usable.
+pub fn glued(v: &Valuation, own: u64) -> Valuation {
     Valuation {
-        team: c.valuation.team,
-        usable: sets::minus(c.valuation.usable, own),
+        team: v.team,
+        usable: sets::minus(v.usable, own),
         glued: own,
     }
 }
 
 // The same for the words of note 6: what is not usable is glued, to the team or to another.
-pub fn site(c: &Case, own: u64) -> Site {
+pub fn site(v: &Valuation, own: u64) -> Site {
     Site {
-        team: c.valuation.team,
+        team: v.team,
         usable: u64::MAX,
         own,
-        anyone: sets::minus(u64::MAX, sets::minus(c.valuation.usable, own)),
+        anyone: sets::minus(u64::MAX, sets::minus(v.usable, own)),
     }
 }

@@ -3,7 +3,6 @@
 #![tactic(auto)]
 
 use lines::{answers, print};
-use many::Sort;
 use std::io;
 
 mod beside;
@@ -18,9 +17,9 @@ mod many;
 fn answer(rt: &impl Print, line: &[u8]) -> io::Result<()> {
     let operands = lines::rest(line);
     match lines::word(line) {
-        b"many" => many::answer(rt, operands, Sort::Plain)?,
-        b"glued" => many::answer(rt, operands, Sort::Glued)?,
-        b"lent" => many::answer(rt, operands, Sort::Lent)?,
+        b"many" => many::answer(rt, operands, many::PLAIN)?,
+        b"glued" => many::answer(rt, operands, many::GLUED)?,
+        b"lent" => many::answer(rt, operands, many::LENT)?,
         b"team" => chosen::answer(rt, operands)?,
         b"gained" => gained::answer(rt, operands)?,
         verb => print::unknown(rt, verb)?,

@@ -19,6 +19,25 @@ pub enum Sort {
     Lent,
 }
 
+// The number of each; any other number is a plain one too.
+// Kept (point 1): `answer` takes whichever number.
+pub const PLAIN: u8 = 0;
+
+pub const GLUED: u8 = 1;
+
+pub const LENT: u8 = 2;
+
+impl Sort {
+    // The sort of a number.
+    fn of(number: u8) -> Sort {
+        match number {
+            GLUED => Sort::Glued,
+            LENT => Sort::Lent,
+            _ => Sort::Plain,
+        }
+    }
+}
+
 // Of the cases so far: the worths added up, the instruments gained, and how many answers differ from the definition's.
 #[derive(Clone, Copy, Default)]
 struct Tally {
@@ -51,10 +70,11 @@ impl Tally {
 
     // Compares the worth of a case's set by the words of note 6, where an instrument is glued. A glued instrument is not usable there.
     fn compare_glued(&mut self, c: &Case) {
-        let own = rule::below(c.m, c.valuation.glued);
+        let v = &c.valuation;
+        let own = rule::below(c.m, v.glued);
         if own != 0 {
-            let answer = kinds::worth_of(defined::glued(c, own), c.m, c.set);
-            let right = defined::site(c, own).worth(c.m, c.set);
+            let answer = kinds::worth_of(defined::glued(v, own), c.m, c.set);
+            let right = defined::site(v, own).worth(c.m, c.set);
             self.compare(answer as u64, right as u64);
         }
     }
@@ -127,7 +147,8 @@ fn long(sort: Sort) -> usize {
 
 // Answers a verb by `COUNT cases, worth W, gains G, differences D`. The rows are hexadecimal, in the order of a family's fields, and after them
 // for `lent` those of the ends of days.
-pub fn answer(rt: &impl Print, operands: &[u8], sort: Sort) -> io::Result<()> {
+pub fn answer(rt: &impl Print, operands: &[u8], sort: u8) -> io::Result<()> {
+    let sort = Sort::of(sort);
     let after = lines::rest(operands);
     let count = lines::number(operands);
     let seed = lines::number(after);
