@@ -1,8 +1,8 @@
 // Bytes that a text writes as pairs of hexadecimal digits, with spaces between them or none.
-ghost use Rattle.std.specs.Prelude.{◌≡◌, ◌<◌, ◌≤◌, IfSome, length};
+ghost use Rattle.std.specs.Prelude.{◌≡◌, ◌<◌, ◌≤◌, MatchOption, length};
 ghost use Rattle.std.specs.Iterator.{at_most};
 ghost use Rattle.lines.specs.Counts.{IsPrefixLen};
-ghost use Rattle.lines.specs.Pieces.{GivesByte, Pair, digit_of};
+ghost use Rattle.lines.specs.Pieces.{GivesByte, NoPair, Pair, digit_of};
 
 // The bytes that are still to come, up to where no pair stands.
 #[derive(Clone, Copy)]
@@ -19,7 +19,7 @@ pub fn of(text: &[u8]) -> Bytes<'_>
 
 // The value of a hexadecimal digit in either case.
 pub fn digit(byte: u8) -> Option<u8>
-    ensures { IfSome result (λ d. (d < 16) × (d ≡ digit_of byte)) }
+    ensures { MatchOption result (digit_of byte ≡ 16) (λ d. (d < 16) × (d ≡ digit_of byte)) }
 {
     match byte {
         b'0'..=b'9' => Some(byte - b'0'),
@@ -31,7 +31,7 @@ pub fn digit(byte: u8) -> Option<u8>
 
 // The byte that the first two bytes of a text write, and what stands after them.
 pub fn pair(text: &[u8]) -> Option<(u8, &[u8])>
-    ensures { IfSome result (λ read. Pair text.now read.0 read.1.now) }
+    ensures { MatchOption result (NoPair text.now) (λ read. Pair text.now read.0 read.1.now) }
 {
     let [high, low, rest @ ..] = text else {
         return None;

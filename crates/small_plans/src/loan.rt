@@ -18,7 +18,7 @@ pub struct Ends {
     pub to: [u16; 8],
 }
 
-// A drawn command with its days.
+// A drawn command with its days, and none where 255 is drawn.
 fn named(commands: &[u8; 8], from: &[u16; 8], to: &[u16; 8], random: &mut Random) -> [u8; 5] {
     let byte = random.pick(commands);
     let from = random.pick(from);

@@ -13,7 +13,7 @@ pub struct Stated {
 }
 
 // The instruments that m GIVEs or PARTs from an offset on name each of four teams or parts for.
-// Kept (point 5): a count, for any teams.
+// Kept (point 5): a count and no Found, whose bound of the teams is not asked for.
 pub fn named(sheet: &[u8], at: usize, m: usize) -> [u64; 4]
     requires { (at ≤ 3000) × (m ≤ 5) }
 {
