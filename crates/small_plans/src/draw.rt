@@ -32,9 +32,10 @@ pub struct Member {
     pub glued: u64,
 }
 
-// A plan of m instruments and of the first n of three teams. In the pool SHELFs name the instruments as FITs do in a MOUNTS team.
+// A plan of at most 5 instruments and 3 teams: m instruments and the first n of three teams. In the pool SHELFs name the instruments as FITs do in a
+// MOUNTS team.
 #[derive(Clone, Copy)]
-pub struct Drawing {
+pub struct SmallPlan {
     pub m: usize,
     pub n: usize,
     pub pool: Team,
@@ -42,7 +43,14 @@ pub struct Drawing {
     ghost counts: { (m ≤ 5) × (n ≤ 3) },
 }
 
-impl Drawing {
+// A plan that is tried: it has a team.
+#[derive(Clone, Copy)]
+pub struct Drawing {
+    pub plan: SmallPlan,
+    ghost counts: { (plan.m ≤ 5) × (1 ≤ plan.n) × (plan.n ≤ 3) },
+}
+
+impl SmallPlan {
     // The teams of the plan.
     pub fn teams(&self) -> &[Member] {
         &self.members[..self.n]
@@ -116,13 +124,13 @@ fn one(f: &Family, random: &mut Random) -> Member {
 }
 
 // A plan of a family: up to 5 instruments and 1 to 3 teams, with no SHELF, no DAYS and no GLUE.
-pub fn drawn(f: &Family, random: &mut Random) -> Drawing
+pub fn drawn(f: &Family, random: &mut Random) -> SmallPlan
     ensures { (result.m ≤ 5) × (1 ≤ result.n) × (result.n ≤ 3) }
 {
     let members = array::from_fn(|_| one(f, random));
     let m = usize::from(random.pick(&f.counts)).min(5);
     let n = usize::from(random.pick(&f.teams)).clamp(1, 3);
-    Drawing {
+    SmallPlan {
         m,
         n,
         pool: team::blank(),

@@ -1,5 +1,5 @@
 // A drawn plan as the bytes of a plan file.
-use crate::draw::{Drawing, Member};
+use crate::draw::{Member, SmallPlan};
 use rule::loan::{DAYS, SHELF};
 use team::{Kind, Team};
 
@@ -54,7 +54,7 @@ fn spans(out: &mut Encoded, m: usize, team: &Team) {
 }
 
 // A FIT for each instrument of a plan that a FIT names, or a SHELF, by the byte of the command.
-fn fits(out: &mut Encoded, plan: &Drawing, team: &Team, command: u8) {
+fn fits(out: &mut Encoded, plan: &SmallPlan, team: &Team, command: u8) {
     for g in 0..plan.m {
         let [named, a, b, c, d] = rule::naming(team, g);
         if named == command {
@@ -78,7 +78,7 @@ fn glues(out: &mut Encoded, m: usize, glued: u64) {
 }
 
 // What names the instruments of a team.
-fn instruments(out: &mut Encoded, plan: &Drawing, team: &Team) {
+fn instruments(out: &mut Encoded, plan: &SmallPlan, team: &Team) {
     match Kind::try_from(team.kind) {
         Ok(Kind::Caps) => {
             classes(out, team);
@@ -90,7 +90,7 @@ fn instruments(out: &mut Encoded, plan: &Drawing, team: &Team) {
 }
 
 // A team with its glued instruments. Where its channels are even its DAYS comes first and its GLUEs last, and else its GLUEs come first.
-fn member(out: &mut Encoded, plan: &Drawing, member: &Member) {
+fn member(out: &mut Encoded, plan: &SmallPlan, member: &Member) {
     let team = &member.team;
     out.put(&[team.kind, team.channels]);
     if team.channels % 2 == 0 {
@@ -105,7 +105,7 @@ fn member(out: &mut Encoded, plan: &Drawing, member: &Member) {
 }
 
 // A whole plan.
-pub fn plan(d: &Drawing) -> Encoded {
+pub fn plan(d: &SmallPlan) -> Encoded {
     let mut out = Encoded {
         space: [0; 160],
         length: 0,

@@ -1,6 +1,8 @@
 // Loan days counted: how the days of the teams lie to the shelf days of the instruments, and what they change.
+ghost use Rattle.std.specs.Prelude.{◌≡◌};
+
 use crate::counts::Counts;
-use crate::draw::Drawing;
+use crate::draw::SmallPlan;
 use crate::{compare, exhaust};
 use rule::loan::Loan;
 use std::ops::Add;
@@ -31,7 +33,7 @@ fn of_pair(days: Loan, shelf: Loan) -> Counts {
 }
 
 // What a team and each instrument of a plan add to the counts.
-fn of_team(d: &Drawing, team: &Team) -> Counts {
+fn of_team(d: &SmallPlan, team: &Team) -> Counts {
     let days = Loan::of_team(team);
     (0..d.m)
         .map(|g| of_pair(days, Loan::of_instrument(&d.pool, g)))
@@ -39,21 +41,28 @@ fn of_team(d: &Drawing, team: &Team) -> Counts {
 }
 
 // What each team and each instrument of a plan add to the counts.
-fn of_teams(d: &Drawing) -> Counts {
+fn of_teams(d: &SmallPlan) -> Counts {
     d.teams()
         .iter()
         .map(|member| of_team(d, &member.team))
         .fold(Counts::default(), Counts::add)
 }
 
-// What the loan days of a plan add to the counts, beside the same plan with no SHELF.
-pub fn of_plan(d: &Drawing) -> Counts {
-    let every = Drawing {
+// The same plan with no SHELF.
+fn unshelved(d: &SmallPlan) -> SmallPlan
+    ensures { (result.m ≡ d.now.m) × (result.n ≡ d.now.n) }
+{
+    SmallPlan {
         m: d.m,
         n: d.n,
         pool: team::blank(),
         members: d.members,
-    };
+    }
+}
+
+// What the loan days of a plan add to the counts, beside the same plan with no SHELF.
+pub fn of_plan(d: &SmallPlan) -> Counts {
+    let every = unshelved(d);
     let f = exhaust::search(d);
     let g = exhaust::search(&every);
     Counts {

@@ -1,7 +1,7 @@
 // The greatest total over all divisions and the best cut over all cuts, by a search through all of them.
 ghost use Rattle.std.specs.Prelude.{◌≤◌};
 
-use crate::draw::{Drawing, Member};
+use crate::draw::{Member, SmallPlan};
 use crate::glue;
 use rule::Independence;
 use std::array;
@@ -67,7 +67,7 @@ fn largest(free: &[bool; 32], set: u64) -> u8 {
 
 impl Seat {
     // A team of a plan, by the pool's SHELFs and the GLUEs. A set with a member at or above m is never independent.
-    fn of(d: &Drawing, member: &Member) -> Seat {
+    fn of(d: &SmallPlan, member: &Member) -> Seat {
         let site = glue::site(&d.pool, &d.members, member);
         let all = sets::all_below(d.m);
         let free = array::from_fn(|k| {
@@ -110,7 +110,7 @@ impl Seat {
 }
 
 // The seats of the teams of a plan.
-fn seats(d: &Drawing) -> [Seat; 4] {
+fn seats(d: &SmallPlan) -> [Seat; 4] {
     let mut seats = [EMPTY; 4];
     for (seat, member) in seats.iter_mut().zip(d.teams()) {
         *seat = Seat::of(d, member);
@@ -167,7 +167,7 @@ fn best_division(seats: &[Seat; 4], n: usize) -> [u64; 4]
 }
 
 // Searches through all divisions and all cuts of a plan.
-pub fn search(d: &Drawing) -> Found {
+pub fn search(d: &SmallPlan) -> Found {
     let seats = seats(d);
     let bundles = best_division(&seats, d.n);
     let p = present(&seats, d.n);

@@ -1,17 +1,26 @@
 // Plans with glued instruments: those that are refused with 18, and what the others gain beside the same plans with no GLUE.
+ghost use Rattle.std.specs.Prelude.{◌≡◌};
+
 use crate::counts::Counts;
-use crate::draw::{Drawing, Member};
+use crate::draw::{Member, SmallPlan};
 use crate::{compare, exhaust, glue, trial};
 use rule::random::Random;
 
-// What the glued instruments of a plan add to the counts, beside the same plan with no GLUE.
-fn beside(d: &Drawing) -> Counts {
-    let free = Drawing {
+// The same plan with no GLUE.
+fn unglued(d: &SmallPlan) -> SmallPlan
+    ensures { (result.m ≡ d.now.m) × (result.n ≡ d.now.n) }
+{
+    SmallPlan {
         m: d.m,
         n: d.n,
         pool: d.pool,
         members: d.members.map(|member| Member { glued: 0, ..member }),
-    };
+    }
+}
+
+// What the glued instruments of a plan add to the counts, beside the same plan with no GLUE.
+fn beside(d: &SmallPlan) -> Counts {
+    let free = unglued(d);
     let f = exhaust::search(d);
     let g = exhaust::search(&free);
     Counts {
@@ -23,7 +32,7 @@ fn beside(d: &Drawing) -> Counts {
 }
 
 // What a plan that is to be refused with 18 adds to the counts.
-fn fallen(d: &Drawing) -> Counts {
+fn fallen(d: &SmallPlan) -> Counts {
     Counts {
         fallen: 1,
         fallen_wrong: u64::from(!trial::refused(d)),
@@ -32,7 +41,7 @@ fn fallen(d: &Drawing) -> Counts {
 }
 
 // The counts of one drawn plan with glued instruments.
-pub fn of_plan(d: &Drawing, random: Random) -> Counts {
+pub fn of_plan(d: &SmallPlan, random: Random) -> Counts {
     if glue::all_stand(&d.pool, &d.members, d.n) {
         trial::run(d, random) + beside(d)
     } else {

@@ -1,7 +1,7 @@
 // Glued instruments for a drawn plan: each instrument is glued to one of the teams, or to none.
 ghost use Rattle.std.specs.Prelude.{◌≤◌};
 
-use crate::draw::{Drawing, Member};
+use crate::draw::{Member, SmallPlan};
 use rule::glue::Site;
 use rule::random::Random;
 use team::Team;
@@ -10,7 +10,7 @@ use team::Team;
 const TEAMS: [Option<usize>; 8] = [Some(0), Some(1), Some(2), None, None, None, None, None];
 
 // A drawn plan with glued instruments.
-pub fn glued(d: &Drawing, random: &mut Random) -> Drawing
+pub fn glued(d: &SmallPlan, random: &mut Random) -> SmallPlan
     requires { 1 ≤ d.now.n }
     ensures { (result.m ≤ 5) × (1 ≤ result.n) × (result.n ≤ 3) }
 {
@@ -21,7 +21,7 @@ pub fn glued(d: &Drawing, random: &mut Random) -> Drawing
             _ => {}
         }
     }
-    Drawing {
+    SmallPlan {
         m: d.m,
         n: d.n,
         pool: d.pool,
@@ -47,7 +47,7 @@ pub fn site(pool: &Team, members: &[Member; 3], member: &Member) -> Site {
 }
 
 // Whether the instruments glued to each of the first n teams were independent for it before any was glued.
-// Kept (point 5): a pool and teams, as in `site`, and teams in `anyone`: a Drawing has bounds, which none of the three asks for.
+// Kept (point 5): a pool and teams, as in `site`, and teams in `anyone`: a SmallPlan has bounds, which none of the three asks for.
 pub fn all_stand(pool: &Team, members: &[Member; 3], n: usize) -> bool {
     members
         .iter()

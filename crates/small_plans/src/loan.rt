@@ -1,7 +1,7 @@
 // Loan days for a drawn plan: a SHELF for some of its instruments and a DAYS for some of its teams.
 ghost use Rattle.std.specs.Prelude.{◌≤◌};
 
-use crate::draw::Drawing;
+use crate::draw::SmallPlan;
 use rule::loan;
 use rule::random::Random;
 use team::Team;
@@ -41,7 +41,7 @@ fn pool_of(e: &Ends, random: &mut Random) -> Team {
 }
 
 // A drawn plan with loan days.
-pub fn lent(d: &Drawing, e: &Ends, random: &mut Random) -> Drawing
+pub fn lent(d: &SmallPlan, e: &Ends, random: &mut Random) -> SmallPlan
     requires { 1 ≤ d.now.n }
     ensures { (result.m ≤ 5) × (1 ≤ result.n) × (result.n ≤ 3) }
 {
@@ -50,7 +50,7 @@ pub fn lent(d: &Drawing, e: &Ends, random: &mut Random) -> Drawing
     for member in members.iter_mut() {
         member.team.days = named(&e.days, &e.from, &e.to, random);
     }
-    Drawing {
+    SmallPlan {
         m: d.m,
         n: d.n,
         pool,

@@ -3,7 +3,7 @@
 #![tactic(auto)]
 
 use counts::Counts;
-use draw::Family;
+use draw::{Drawing, Family};
 use loan::Ends;
 use rule::loan::{DAYS, SHELF};
 use rule::random::Random;
@@ -142,21 +142,27 @@ enum Sort {
 
 // What one plan without loan days adds to the counts.
 fn plain(s: &Sample, random: &mut Random) -> Counts {
-    let d = draw::drawn(&s.family, random);
-    trial::run(&d, *random)
+    let d = Drawing {
+        plan: draw::drawn(&s.family, random),
+    };
+    trial::run(&d.plan, *random)
 }
 
 // What one plan with loan days adds to the counts.
 fn lent(s: &Sample, random: &mut Random) -> Counts {
-    let d = loan::lent(&draw::drawn(&s.family, random), &s.ends, random);
-    trial::run(&d, *random) + ends::of_plan(&d)
+    let d = Drawing {
+        plan: loan::lent(&draw::drawn(&s.family, random), &s.ends, random),
+    };
+    trial::run(&d.plan, *random) + ends::of_plan(&d.plan)
 }
 
 // What one plan with loan days and glued instruments adds to the counts.
 fn glued(s: &Sample, random: &mut Random) -> Counts {
     let d = loan::lent(&draw::drawn(&s.family, random), &s.ends, random);
-    let d = glue::glued(&d, random);
-    gained::of_plan(&d, *random)
+    let d = Drawing {
+        plan: glue::glued(&d, random),
+    };
+    gained::of_plan(&d.plan, *random)
 }
 
 // Kept (point 7): tried, a closure that takes a sample and a `&mut Random` gets no proof where it is handed on to the loop over plans.

@@ -1,6 +1,6 @@
 // One plan: Build's sheet, Check's answer to it, and the search.
 use crate::counts::Counts;
-use crate::draw::Drawing;
+use crate::draw::SmallPlan;
 use crate::exhaust::Found;
 use crate::{changes, compare, encode, exhaust};
 use command::refusal::Refusal;
@@ -32,14 +32,14 @@ fn of_plan(f: &Found, plan: &[u8], random: Random) -> Counts {
 }
 
 // The counts of one drawn plan, with changes drawn after it.
-pub fn run(d: &Drawing, random: Random) -> Counts {
+pub fn run(d: &SmallPlan, random: Random) -> Counts {
     let f = exhaust::search(d);
     let plan = encode::plan(d);
     compare::of_plan(f.n, &f.seats, &f.lots) + of_plan(&f, plan.bytes(), random)
 }
 
 // Whether Build refuses one drawn plan with 18 at its END, and writes nothing.
-pub fn refused(d: &Drawing) -> bool {
+pub fn refused(d: &SmallPlan) -> bool {
     let encoded = encode::plan(d);
     let plan = encoded.bytes();
     let mut space = [FILLER; 128];
